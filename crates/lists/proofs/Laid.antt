@@ -1,0 +1,78 @@
+-- The laws of bytes laid over a list.
+-- Assumes nothing.
+use mathlib.Core.Path.{_≡_, refl, sym, ap, _∙_}
+use mathlib.Core.List.{List, [], _∷_, _++_, append-assoc, append-nil}
+use Prim.Native.Nat.{ℕ, zero, suc, _+_, _-_, _≤_, _<_, min}
+use native.Mathlib.Nat.{add-sub-cancel-left, zero-add}
+use native.Mathlib.Numerals.{add-one}
+use native.Mathlib.Omega.{arith}
+use lib.ListN.{length, take, drop, getD, set, length-append, length-take, length-drop, length-set, replicate, length-replicate, drop-of-length-le}
+use lib.Seq.{sets, sets-eq, length-sets, set-out, drop-cons, take-at, drop-drop, drop-length}
+use mathlib.Core.Logic.{⊎-elim}
+use borrow.Rule.Slice.PartMut.{putMid}
+use Rattle.lists.proofs.Cases.{lt-or-le}
+use Rattle.lists.specs.Bytes.{laid, zeros}
+
+pub length-laid : (l : List ℕ) (at : ℕ) (bs : List ℕ) → length (laid l at bs) ≡ length l
+unfolding laid
+length-laid l at bs = length-sets l at bs
+
+-- laying goes by the list's head
+pub laid-on : (x : ℕ) (l : List ℕ) (at : ℕ) (bs : List ℕ) → laid (x ∷ l) (suc at) bs ≡ x ∷ laid l at bs
+unfolding laid
+laid-on x l at [] = refl
+laid-on x l at (b ∷ bs) = laid-on x (set l at b) (suc at) bs
+
+pub laid-head : (x : ℕ) (l : List ℕ) (b : ℕ) (bs : List ℕ) → laid (x ∷ l) 0 (b ∷ bs) ≡ b ∷ laid l 0 bs
+unfolding laid
+laid-head x l b bs = laid-on b l 0 bs
+
+-- bytes that fit, laid: what stands before, the bytes, what stands behind
+pub laid-eq : (l : List ℕ) (at : ℕ) (bs : List ℕ) → at + length bs ≤ length l → laid l at bs ≡ take at l ++ (bs ++ drop (at + length bs) l)
+unfolding laid
+laid-eq l at bs h = sets-eq bs l at h ∙ append-assoc (take at l) bs (drop (at + length bs) l)
+
+-- bytes laid right behind bytes are the two together
+pub laid-behind : (l : List ℕ) (at : ℕ) (bs cs : List ℕ) → laid (laid l at bs) (at + length bs) cs ≡ laid l at (bs ++ cs)
+unfolding laid
+laid-behind l at [] cs = let e : at + 0 ≡ at = omega arith in rw e
+laid-behind l at (b ∷ bs) cs = let e : at + suc (length bs) ≡ suc at + length bs = omega arith in rw e (laid-behind (set l at b) (suc at) bs cs)
+
+-- past the end nothing is laid
+pub laid-past : (l : List ℕ) (at : ℕ) (bs : List ℕ) → length l ≤ at → laid l at bs ≡ l
+unfolding laid
+laid-past l at [] h = refl
+laid-past l at (b ∷ bs) h = rw (set-out l at b h) (laid-past l (suc at) bs (omega arith))
+
+-- one turn of a copy: the byte at i is laid, and those behind it are still to come
+pub laid-turn : (l bs : List ℕ) (i : ℕ) → i < length bs → laid (set l i (getD bs i 0)) (i + 1) (drop (i + 1) bs) ≡ laid l i (drop i bs)
+unfolding laid
+laid-turn l bs i h = rw (add-one, drop-cons bs i 0 h)
+
+-- a copy that has come to the end of either list
+pub laid-end : (l bs : List ℕ) (i : ℕ) → min (length l) (length bs) ≤ i → laid l i (drop i bs) ≡ l
+unfolding laid
+laid-end l bs i h =
+    ⊎-elim
+    (λ (k : i < length l). rw (drop-of-length-le bs {i = i} (omega arith)))
+    (λ (k : length l ≤ i). laid-past l i (drop i bs) k)
+    (lt-or-le i (length l))
+
+-- laid bytes stand at the front
+pub front : (l bs : List ℕ) → length bs ≤ length l → take (length bs) (laid l 0 bs) ≡ bs
+front l bs h = rw (laid-eq l 0 bs (omega arith)) (take-at bs (drop (0 + length bs) l) (length bs) refl)
+
+-- a part that was lent from a up to e and has come back as bytes of its length
+pub back : (l : List ℕ) (a e : ℕ) (bs : List ℕ) → a ≤ e → e ≤ length l → length bs ≡ e - a → putMid a (e - a) l bs ≡ laid l a bs
+back l a e bs h k n =
+    let f : a + length bs ≤ length l = omega arith in
+    rw (laid-eq l a bs f, n, drop-drop)
+
+pub length-zeros : (n : ℕ) → length (zeros n) ≡ n
+unfolding zeros
+length-zeros n = length-replicate n 0
+
+-- a fill that has come to the end
+pub filled : (l : List ℕ) (i : ℕ) → i ≡ length l → replicate i 0 ++ drop i l ≡ zeros (length l)
+unfolding zeros
+filled l i e = rw (e, drop-length, append-nil)

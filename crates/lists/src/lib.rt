@@ -1,0 +1,52 @@
+// Byte slices, and the lists that contracts speak of.
+//
+// specs/ has the definitions that every other crate cites: the first place that passes a test, bytes laid over a list,
+// zeros. proofs/ has their laws. The functions are the only loops over bytes. Each takes slices of any length.
+ghost use mathlib.Core.Path.{_≡_};
+ghost use Prim.Native.Nat.{min};
+ghost use lib.ListN.{length};
+ghost use Rattle.lists.specs.Bytes.{laid, zeros, isZero};
+ghost use Rattle.lists.specs.Places.{place};
+
+fn lesser(a: usize, b: usize) -> usize
+    ensures { λ r. ⌜ r ≡ min a b ⌝ }
+{
+    if a < b { a } else { b }
+}
+
+// Copies the block to the front of the part. Bytes behind it stay, and what doesn't fit is left out.
+pub fn copy(part: &mut [u8], block: &[u8])
+    ensures { λ _. ⌜ now (part .exit) ≡ laid (now (part .entry)) 0 (now (block .entry)) ⌝ }
+{
+    let n = lesser(part.len(), block.len());
+    let mut i = 0;
+    while i < n {
+        part[i] = block[i];
+        i += 1;
+    }
+}
+
+// Every byte of the part becomes zero.
+pub fn clear(part: &mut [u8])
+    ensures { λ _. ⌜ now (part .exit) ≡ zeros (length (now (part .entry))) ⌝ }
+{
+    let mut i = 0;
+    while i < part.len() {
+        part[i] = 0;
+        i += 1;
+    }
+}
+
+// The place of the first zero byte, or the length where there is none.
+pub fn first_zero(bytes: &[u8]) -> usize
+    ensures { λ r. ⌜ r ≡ place isZero (now (bytes .entry)) ⌝ }
+{
+    let mut i = 0;
+    while i < bytes.len() {
+        if bytes[i] == 0 {
+            return i;
+        }
+        i += 1;
+    }
+    i
+}

@@ -1,0 +1,134 @@
+-- The laws of numbers in bytes, each once for all widths.
+-- Assumes nothing.
+use mathlib.Core.Path.{_≡_, refl, sym, ap, _∙_}
+use mathlib.Core.Bool.{Bool, true, false, cond}
+use mathlib.Core.List.{List, [], _∷_, _++_}
+use mathlib.Core.Logic.{⊎-elim}
+use Prim.Native.Nat.{ℕ, zero, suc, _+_, _*_, _/_, _%_, _^_, _≤_, _<_, _-_}
+use native.Mathlib.Nat.{mod-add-div, pow-suc, div-lt-iff-lt-mul, lt-of-lt-of-le, pow-le-pow-right}
+use native.Mathlib.Omega.{arith}
+use borrow.Author.Tests.{lt-ltb, le-ltb}
+use lib.Dec.{lit<, lit≤, ltb, eqb}
+use lib.ListN.{length, take, drop, getD, length-take}
+use lib.Seq.{take-all, take-at, drop-at, take-take, getD-drop, getD-take, sets}
+use Rattle.lists.specs.Bytes.{laid, zeros}
+use Rattle.lists.proofs.Cases.{lt-or-le, choice}
+use Rattle.lists.proofs.Laid.{laid-past, laid-head}
+use Rattle.numbers.specs.Numbers.{little, bytesOf, valueOf, valueAt, widthOf, codeFor, narrowest, narrowBytes}
+
+-- ---- lengths and bounds
+
+pub length-bytesOf : (n v : ℕ) → length (bytesOf n v) ≡ n
+unfolding bytesOf
+length-bytesOf zero v = refl
+length-bytesOf (suc n) v = ap suc (length-bytesOf n (v / 256))
+
+pub width-le : (code : ℕ) → widthOf code ≤ 4
+unfolding widthOf
+width-le code =
+    choice (λ (n : ℕ). n ≤ 4) (eqb code 0) (λ _. lit≤ tt)
+    (λ _. choice (λ (n : ℕ). n ≤ 4) (eqb code 1) (λ _. lit≤ tt) (λ _. choice (λ (n : ℕ). n ≤ 4) (eqb code 2) (λ _. lit≤ tt) (λ _. lit≤ tt)))
+
+pub code-le : (v : ℕ) → codeFor v ≤ 2
+unfolding codeFor
+code-le v = choice (λ (n : ℕ). n ≤ 2) (ltb v 256) (λ _. lit≤ tt) (λ _. choice (λ (n : ℕ). n ≤ 2) (ltb v 65536) (λ _. lit≤ tt) (λ _. lit≤ tt))
+
+pub narrowest-le : (v : ℕ) → narrowest v ≤ 4
+unfolding narrowest
+narrowest-le v = width-le (codeFor v)
+
+pub length-narrow : (v : ℕ) → length (narrowBytes v) ≡ narrowest v
+unfolding narrowBytes
+length-narrow v = length-bytesOf (narrowest v) v
+
+-- the narrowest width holds the value
+pub narrow-holds : (v : ℕ) → v < 4294967296 → v < 256 ^ narrowest v
+unfolding narrowest widthOf codeFor
+narrow-holds v h =
+    ⊎-elim
+    (λ (a : v < 256). simp (lt-ltb v 256 a) a)
+    (λ (a : 256 ≤ v).
+    ⊎-elim
+    (λ (b : v < 65536). simp (le-ltb v 256 a, lt-ltb v 65536 b) b)
+    (λ (b : 65536 ≤ v). simp (le-ltb v 256 a, le-ltb v 65536 b) h)
+    (lt-or-le v 65536))
+    (lt-or-le v 256)
+
+-- bytes are below 256
+abbrev pub Bytes : List ℕ → Type 0
+Bytes l = (i : ℕ) → getD l i 0 < 256
+
+pub little-below : (n : ℕ) (bs : List ℕ) → Bytes bs → little (take n bs) < 256 ^ n
+unfolding little
+little-below zero bs h = lit< tt
+little-below (suc n) [] h = let b = little-below n [] h in simp pow-suc (omega arith)
+little-below (suc n) (x ∷ bs) h =
+    let b = little-below n bs (λ i. h (suc i)) in
+    let hx = h 0 in
+    simp pow-suc (omega arith)
+
+-- the value of n bytes, at most four, fits n bytes
+pub value-below : (l : List ℕ) (at n : ℕ) → n ≤ 4 → Bytes l → valueAt l at n < 256 ^ n
+unfolding valueAt valueOf
+value-below l at n h b =
+    let t : take 4 (take n (drop at l)) ≡ take n (drop at l) = take-all 4 (take n (drop at l)) (simp length-take (omega arith)) in
+    rw t (little-below n (drop at l) (λ i. rw getD-drop (b (at + i))))
+
+-- ---- reading what was written
+
+-- what is written in n bytes is read back, where it fits n bytes
+pub little-bytesOf : (n v : ℕ) → v < 256 ^ n → little (bytesOf n v) ≡ v
+unfolding little bytesOf
+little-bytesOf zero v h = omega arith
+little-bytesOf (suc n) v h =
+    let e : little (bytesOf n (v / 256)) ≡ v / 256 = little-bytesOf n (v / 256) (div-lt-iff-lt-mul (lit< tt) .1 (rw pow-suc at h)) in
+    rw e (mod-add-div v 256)
+
+-- a number is its value, whatever its width
+pub value-in : (p q : List ℕ) (n v at : ℕ) → length p ≡ at → n ≤ 4 → v < 256 ^ n → valueAt (p ++ (bytesOf n v ++ q)) at n ≡ v
+unfolding valueAt valueOf
+value-in p q n v at e k h =
+    let b = bytesOf n v in
+    let t : take 4 b ≡ b = take-all 4 b (rw length-bytesOf k) in
+    rw (drop-at p (b ++ q) at e, take-at b q n (length-bytesOf n v), t) (little-bytesOf n v h)
+
+-- what is read is written back: bytes, as many as the width
+pub bytesOf-little : (bs : List ℕ) → Bytes bs → bytesOf (length bs) (little bs) ≡ bs
+unfolding little bytesOf
+bytesOf-little [] h = refl
+bytesOf-little (b ∷ bs) h =
+    let hb = h 0 in
+    let m : (b + 256 * little bs) % 256 ≡ b = omega arith in
+    let d : (b + 256 * little bs) / 256 ≡ little bs = omega arith in
+    rw (m, d, bytesOf-little bs (λ i. h (suc i)))
+
+-- ---- the four-byte scratch
+
+little-zeros : (n : ℕ) → little (zeros n) ≡ 0
+unfolding zeros little
+little-zeros zero = refl
+little-zeros (suc n) = rw (little-zeros n)
+
+-- the number that the scratch makes is that of the bytes
+pub scratch : (n : ℕ) (bs : List ℕ) → little (laid (zeros n) 0 bs) ≡ little (take n bs)
+unfolding zeros little laid
+scratch zero bs = rw (laid-past [] 0 bs (lit≤ tt))
+scratch (suc n) [] = rw (little-zeros n)
+scratch (suc n) (b ∷ bs) = rw (laid-head 0 (zeros n) b bs, scratch n bs)
+
+-- bytes laid over a part that is no longer than they are: its bytes are the low ones
+pub over-part : (m v : ℕ) (part : List ℕ) → length part ≤ m → laid part 0 (bytesOf m v) ≡ bytesOf (length part) v
+unfolding bytesOf
+over-part m v [] h = laid-past [] 0 (bytesOf m v) (lit≤ tt)
+over-part zero v (x ∷ part) h = absurd (omega arith)
+over-part (suc m) v (x ∷ part) h = rw (laid-head x part (v % 256) (bytesOf m (v / 256)), over-part m (v / 256) part (omega arith))
+
+-- four bytes, each by its place
+pub little-four : (b : List ℕ) → length b ≡ 4 → little b ≡ getD b 0 0 + 256 * (getD b 1 0 + 256 * (getD b 2 0 + 256 * getD b 3 0))
+unfolding little
+little-four [] h = absurd (omega arith)
+little-four (b ∷ []) h = absurd (omega arith)
+little-four (b ∷ c ∷ []) h = absurd (omega arith)
+little-four (b ∷ c ∷ d ∷ []) h = absurd (omega arith)
+little-four (b ∷ c ∷ d ∷ e ∷ []) h = omega arith
+little-four (b ∷ c ∷ d ∷ e ∷ f ∷ rest) h = absurd (omega arith)

@@ -1,0 +1,40 @@
+-- Numbers in bytes. "Numbers are little-endian. A width code 0, 1, 2 means 1, 2, 4 bytes; 3 is invalid."
+use Prim.Native.Nat.{ℕ, zero, suc, _+_, _*_, _/_, _%_}
+use mathlib.Core.Bool.{cond}
+use mathlib.Core.List.{List, [], _∷_}
+use lib.Dec.{ltb, eqb}
+use lib.ListN.{take, drop}
+
+-- the number that bytes make, the lowest first
+unfoldable pub little : List ℕ → ℕ
+little [] = 0
+little (b ∷ bs) = b + 256 * little bs
+
+-- the n low bytes of a value, the lowest first
+unfoldable pub bytesOf : ℕ → ℕ → List ℕ
+bytesOf zero v = []
+bytesOf (suc n) v = v % 256 ∷ bytesOf n (v / 256)
+
+-- the value of a number's bytes, at most four
+unfoldable pub valueOf : List ℕ → ℕ
+valueOf bytes = little (take 4 bytes)
+
+-- the value of the n bytes from a place on
+unfoldable pub valueAt : List ℕ → ℕ → ℕ → ℕ
+valueAt list at n = valueOf (take n (drop at list))
+
+-- the bytes of a width code; the invalid code has none
+unfoldable pub widthOf : ℕ → ℕ
+widthOf code = cond (eqb code 0) 1 (cond (eqb code 1) 2 (cond (eqb code 2) 4 0))
+
+-- "We write numbers and Length in the narrowest width": its code,
+unfoldable pub codeFor : ℕ → ℕ
+codeFor v = cond (ltb v 256) 0 (cond (ltb v 65536) 1 2)
+
+-- its bytes,
+unfoldable pub narrowest : ℕ → ℕ
+narrowest v = widthOf (codeFor v)
+
+-- and the value in it
+unfoldable pub narrowBytes : ℕ → List ℕ
+narrowBytes v = bytesOf (narrowest v) v

@@ -1,0 +1,17 @@
+-- Cmd, the high four bits of a PDU's first byte.
+use Prim.Native.Nat.{ℕ}
+
+abbrev pub CREATE : ℕ
+CREATE = 1
+
+abbrev pub DATA-FIRST : ℕ
+DATA-FIRST = 2
+
+abbrev pub DATA : ℕ
+DATA = 3
+
+abbrev pub CLOSE : ℕ
+CLOSE = 4
+
+abbrev pub CAPABILITIES : ℕ
+CAPABILITIES = 5

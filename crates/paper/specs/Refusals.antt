@@ -1,0 +1,20 @@
+-- The refusals' numbers. The type and the sentence of each stand in src/lib.rt.
+use Prim.Native.Nat.{ℕ}
+use Rattle.paper.specs.declared.Refusal.{Refusal}
+use Rattle.paper.specs.declared.Refusal.the-variants.{WrongSize, CutShort, TooLong, NoCommand, BadField, BadList, WrongTime, NotOpen, AlreadyOpen, StillJoining, OverLimit, PastLength, IsSpoiled, NoStart}
+
+abbrev pub refusalNumber : Refusal → ℕ
+refusalNumber WrongSize = 1
+refusalNumber CutShort = 2
+refusalNumber TooLong = 3
+refusalNumber NoCommand = 4
+refusalNumber BadField = 5
+refusalNumber BadList = 6
+refusalNumber WrongTime = 7
+refusalNumber NotOpen = 8
+refusalNumber AlreadyOpen = 9
+refusalNumber StillJoining = 10
+refusalNumber OverLimit = 11
+refusalNumber PastLength = 12
+refusalNumber IsSpoiled = 13
+refusalNumber NoStart = 14

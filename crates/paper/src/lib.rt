@@ -1,0 +1,76 @@
+// The build paper's own numbers, each named once: sizes, commands and refusals.
+//
+// Code takes the names from here, and definitions take the names of specs/Sizes, specs/Commands and
+// specs/Refusals. Every use in code is proved to agree with the definition that it meets, so the two can't drift apart.
+ghost use mathlib.Core.Path.{_≡_};
+ghost use Rattle.paper.specs.Refusals.{refusalNumber};
+
+// The most bytes that a PDU has, and the fewest that the buffer for a written one has.
+pub const PDU_MAX: usize = 1600;
+
+// Cmd, the high four bits of a PDU's first byte.
+pub const CREATE: u8 = 1;
+
+pub const DATA_FIRST: u8 = 2;
+
+pub const DATA: u8 = 3;
+
+pub const CLOSE: u8 = 4;
+
+pub const CAPABILITIES: u8 = 5;
+
+// Why an entry refuses: the paper's table, with its number and its sentence beside each name.
+pub enum Refusal {
+    // 1: store, reply or PDU buffer is not of its size, or the table passed in is unsound.
+    WrongSize,
+    // 2: the PDU is empty, or ends inside a field or before the name's zero.
+    CutShort,
+    // 3: the PDU is longer than 1,600.
+    TooLong,
+    // 4: Cmd is not 1 to 5.
+    NoCommand,
+    // 5: width code 3; Capabilities with cbId or Pad not 0, or Version not 1 to 3; bytes after the last field or after
+    // the name's zero. On writing: a name with a zero byte, such a Version, a class over 3, or charges other than 0
+    // with version 1.
+    BadField,
+    // 6: Create request with a listener list outside its rule.
+    BadList,
+    // 7: Capabilities request when already ready; any other readable PDU or a local close when not ready.
+    WrongTime,
+    // 8: data or local close for a number that isn't open.
+    NotOpen,
+    // 9: Create request for a number that is open.
+    AlreadyOpen,
+    // 10: Data First while a message is being joined.
+    StillJoining,
+    // 11: Data First with Length over 4,096. On cutting: a message over 4,096. On writing: a PDU that would pass 1,600.
+    OverLimit,
+    // 12: block longer than what is still to come.
+    PastLength,
+    // 13: data for a spoiled channel.
+    IsSpoiled,
+    // 14: cutting: the offset is not a start of a block.
+    NoStart,
+}
+
+// The refusal's number in the paper's table.
+pub fn number(refusal: Refusal) -> u8
+    ensures { λ n. ⌜ n ≡ refusalNumber refusal ⌝ }
+{
+    match refusal {
+        Refusal::WrongSize => 1,
+        Refusal::CutShort => 2,
+        Refusal::TooLong => 3,
+        Refusal::NoCommand => 4,
+        Refusal::BadField => 5,
+        Refusal::BadList => 6,
+        Refusal::WrongTime => 7,
+        Refusal::NotOpen => 8,
+        Refusal::AlreadyOpen => 9,
+        Refusal::StillJoining => 10,
+        Refusal::OverLimit => 11,
+        Refusal::PastLength => 12,
+        Refusal::IsSpoiled => 13,
+        Refusal::NoStart => 14,
+    }
+}
