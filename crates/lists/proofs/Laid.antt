@@ -7,7 +7,7 @@ use native.Mathlib.Nat.{add-sub-cancel-left, zero-add}
 use native.Mathlib.Numerals.{add-one}
 use native.Mathlib.Omega.{arith}
 use lib.ListN.{length, take, drop, getD, set, length-append, length-take, length-drop, length-set, replicate, length-replicate, drop-of-length-le}
-use lib.Seq.{sets, sets-eq, length-sets, set-out, drop-cons, take-at, drop-drop, drop-length}
+use lib.Seq.{sets, sets-eq, length-sets, set-out, drop-cons, take-at, take-all, drop-drop, drop-length}
 use mathlib.Core.Logic.{⊎-elim}
 use borrow.Rule.Slice.PartMut.{putMid}
 use Rattle.lists.proofs.Cases.{lt-or-le}
@@ -61,6 +61,18 @@ laid-end l bs i h =
 -- laid bytes stand at the front
 pub front : (l bs : List ℕ) → length bs ≤ length l → take (length bs) (laid l 0 bs) ≡ bs
 front l bs h = rw (laid-eq l 0 bs (omega arith)) (take-at bs (drop (0 + length bs) l) (length bs) refl)
+
+-- laid over as many bytes, they are all
+pub whole : (l bs : List ℕ) → length bs ≡ length l → laid l 0 bs ≡ bs
+whole l bs h = rw (laid-eq l 0 bs (omega arith), drop-of-length-le l {i = 0 + length bs} (omega arith)) (append-nil bs)
+
+-- a part that is lent from a place to the end
+pub to-end : (l : List ℕ) (at : ℕ) → take (length l - at) (drop at l) ≡ drop at l
+to-end l at = take-all (length l - at) (drop at l) (rw length-drop (omega arith))
+
+-- a part of n that is lent from a place on
+pub from-to : (l : List ℕ) (at n : ℕ) → take (at + n - at) (drop at l) ≡ take n (drop at l)
+from-to l at n = rw add-sub-cancel-left
 
 -- a part that was lent from a up to e and has come back as bytes of its length
 pub back : (l : List ℕ) (a e : ℕ) (bs : List ℕ) → a ≤ e → e ≤ length l → length bs ≡ e - a → putMid a (e - a) l bs ≡ laid l a bs
