@@ -38,6 +38,12 @@ unfolding laid
 laid-behind l at [] cs = let e : at + 0 ≡ at = omega arith in rw e
 laid-behind l at (b ∷ bs) cs = let e : at + suc (length bs) ≡ suc at + length bs = omega arith in rw e (laid-behind (set l at b) (suc at) bs cs)
 
+-- a buffer written from the front in two steps
+pub laid-next : (out mid after bs cs : List ℕ) (at : ℕ) → at ≡ length bs → mid ≡ laid out 0 bs → after ≡ laid mid at cs → after ≡ laid out 0 (bs ++ cs)
+laid-next out mid after bs cs at e f g =
+    let h : at ≡ 0 + length bs = omega arith in
+    g ∙ rw (f, h) (laid-behind out 0 bs cs)
+
 -- past the end nothing is laid
 pub laid-past : (l : List ℕ) (at : ℕ) (bs : List ℕ) → length l ≤ at → laid l at bs ≡ l
 unfolding laid
@@ -62,6 +68,12 @@ laid-end l bs i h =
 pub front : (l bs : List ℕ) → length bs ≤ length l → take (length bs) (laid l 0 bs) ≡ bs
 front l bs h = rw (laid-eq l 0 bs (omega arith)) (take-at bs (drop (0 + length bs) l) (length bs) refl)
 
+-- laid over the end of a list from a place on
+pub laid-end-part : (l : List ℕ) (at : ℕ) (bs : List ℕ) → at ≤ length l → take at l ++ laid (drop at l) 0 bs ≡ laid l at bs
+laid-end-part l zero bs h = refl
+laid-end-part [] (suc at) bs h = absurd (omega arith)
+laid-end-part (x ∷ l) (suc at) bs h = rw (laid-on x l at bs, laid-end-part l at bs (omega arith))
+
 -- laid over as many bytes, they are all
 pub whole : (l bs : List ℕ) → length bs ≡ length l → laid l 0 bs ≡ bs
 whole l bs h = rw (laid-eq l 0 bs (omega arith), drop-of-length-le l {i = 0 + length bs} (omega arith)) (append-nil bs)
@@ -70,9 +82,23 @@ whole l bs h = rw (laid-eq l 0 bs (omega arith), drop-of-length-le l {i = 0 + le
 pub to-end : (l : List ℕ) (at : ℕ) → take (length l - at) (drop at l) ≡ drop at l
 to-end l at = take-all (length l - at) (drop at l) (rw length-drop (omega arith))
 
+-- taking at most all there is
+pub take-least : (n : ℕ) (l : List ℕ) → take (min n (length l)) l ≡ take n l
+take-least zero l = let e : min 0 (length l) ≡ 0 = omega arith in rw e
+take-least (suc n) [] = let e : min (suc n) 0 ≡ 0 = omega arith in rw e
+take-least (suc n) (x ∷ l) =
+    let e : min (suc n) (suc (length l)) ≡ suc (min n (length l)) = omega arith in
+    rw (e, take-least n l)
+
 -- a part of n that is lent from a place on
 pub from-to : (l : List ℕ) (at n : ℕ) → take (at + n - at) (drop at l) ≡ take n (drop at l)
 from-to l at n = rw add-sub-cancel-left
+
+-- a part that was lent from a place to the end, with bytes laid over its front
+pub back-end : (l : List ℕ) (at : ℕ) (part bs : List ℕ) → at ≤ length l → part ≡ laid (take (length l - at) (drop at l)) 0 bs → putMid at (length l - at) l part ≡ laid l at bs
+back-end l at part bs h e =
+    let none : drop (length l - at) (drop at l) ≡ [] = drop-of-length-le (drop at l) {i = length l - at} (rw length-drop (omega arith)) in
+    rw (e, to-end l at, none, append-nil) (laid-end-part l at bs h)
 
 -- a part that was lent from a up to e and has come back as bytes of its length
 pub back : (l : List ℕ) (a e : ℕ) (bs : List ℕ) → a ≤ e → e ≤ length l → length bs ≡ e - a → putMid a (e - a) l bs ≡ laid l a bs

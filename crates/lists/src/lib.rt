@@ -8,7 +8,8 @@ ghost use lib.ListN.{length};
 ghost use Rattle.lists.specs.Bytes.{laid, zeros, isZero};
 ghost use Rattle.lists.specs.Places.{place};
 
-fn lesser(a: usize, b: usize) -> usize
+// The lesser of two numbers.
+pub fn lesser(a: usize, b: usize) -> usize
     ensures { λ r. ⌜ r ≡ min a b ⌝ }
 {
     if a < b { a } else { b }
@@ -24,6 +25,16 @@ pub fn copy(part: &mut [u8], block: &[u8])
         part[i] = block[i];
         i += 1;
     }
+}
+
+// Copies the block into the part from a place on. Bytes before and behind it stay, and what doesn't fit is left out.
+pub fn copy_at(part: &mut [u8], at: usize, block: &[u8])
+    ensures { λ _. ⌜ now (part .exit) ≡ laid (now (part .entry)) at (now (block .entry)) ⌝ }
+{
+    if part.len() <= at {
+        return;
+    }
+    copy(&mut part[at..], block);
 }
 
 // Every byte of the part becomes zero.

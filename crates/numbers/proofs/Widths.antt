@@ -116,12 +116,12 @@ scratch zero bs = rw (laid-past [] 0 bs (lit≤ tt))
 scratch (suc n) [] = rw (little-zeros n)
 scratch (suc n) (b ∷ bs) = rw (laid-head 0 (zeros n) b bs, scratch n bs)
 
--- bytes laid over a part that is no longer than they are: its bytes are the low ones
-pub over-part : (m v : ℕ) (part : List ℕ) → length part ≤ m → laid part 0 (bytesOf m v) ≡ bytesOf (length part) v
+-- the low bytes of more bytes
+pub low-bytes : (n m v : ℕ) → n ≤ m → take n (bytesOf m v) ≡ bytesOf n v
 unfolding bytesOf
-over-part m v [] h = laid-past [] 0 (bytesOf m v) (lit≤ tt)
-over-part zero v (x ∷ part) h = absurd (omega arith)
-over-part (suc m) v (x ∷ part) h = rw (laid-head x part (v % 256) (bytesOf m (v / 256)), over-part m (v / 256) part (omega arith))
+low-bytes zero m v h = refl
+low-bytes (suc n) zero v h = absurd (omega arith)
+low-bytes (suc n) (suc m) v h = ap (λ (l : List ℕ). v % 256 ∷ l) (low-bytes n m (v / 256) (omega arith))
 
 -- four bytes, each by its place
 pub little-four : (b : List ℕ) → length b ≡ 4 → little b ≡ getD b 0 0 + 256 * (getD b 1 0 + 256 * (getD b 2 0 + 256 * getD b 3 0))

@@ -3,6 +3,7 @@
 // Every function takes any bytes and any lengths, and none refuses.
 ghost use mathlib.Core.Path.{_≡_};
 ghost use Prim.Native.Nat.{_<_};
+ghost use lib.ListN.{take};
 ghost use Rattle.lists.specs.Bytes.{laid, zeros};
 ghost use Rattle.numbers.specs.Numbers.{little, bytesOf, valueOf, widthOf, codeFor, narrowest};
 ghost use Rattle.numbers.specs.Status.{signedOf, unsignedOf, statusOf, statusBytes};
@@ -87,12 +88,13 @@ pub fn number(bytes: &[u8]) -> u32
     joined(four(bytes))
 }
 
-// Writes the value over the part: as many of its four bytes as the part has room for, the lowest first.
-pub fn put(part: &mut [u8], value: u32)
-    ensures { λ _. ⌜ now (part .exit) ≡ laid (now (part .entry)) 0 (bytesOf 4 value) ⌝ }
+// Writes the low bytes of the value, as many as the width says and at most four, from a place on.
+pub fn put(out: &mut [u8], at: usize, width: usize, value: u32)
+    ensures { λ _. ⌜ now (out .exit) ≡ laid (now (out .entry)) at (take width (bytesOf 4 value)) ⌝ }
 {
     let bytes = split(value);
-    lists::copy(part, &bytes);
+    let n = lists::lesser(width, 4);
+    lists::copy_at(out, at, &bytes[..n]);
 }
 
 // The signed number of the same 32 bits.

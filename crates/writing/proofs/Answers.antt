@@ -1,0 +1,34 @@
+-- What every writer does with its judge's answer, once for all seven.
+-- Assumes nothing.
+use mathlib.Core.Path.{_≡_, refl, sym, _∙_}
+use mathlib.Core.Bool.{Bool}
+use mathlib.Core.List.{List}
+use Prim.Native.Nat.{ℕ}
+use lib.ListN.{length}
+use Rattle.paper.specs.declared.Refusal.{Refusal}
+use Rattle.lists.specs.Bytes.{laid}
+use Rattle.reading.specs.declared.Charges.{Charges}
+use Rattle.laying.specs.Laying.{capsRequestBytes}
+use Rattle.laying.proofs.Lengths.{length-caps-request}
+use Rattle.writing.specs.Writing.{judged, written, bufferAfter, requestLength}
+use Rattle.writing.specs.declared.Written.{Written}
+use Rattle.writing.specs.declared.Written.the-variants.{Length, Refused}
+
+-- the answer to the buffer's length, the values and the PDU's length is the PDU's answer
+answered : {bad b : Bool} (pdu out : List ℕ) {r : Written} {len : ℕ} → r ≡ judged (length out) b len → b ≡ bad → len ≡ length pdu → r ≡ written bad pdu out
+unfolding written
+answered pdu out e f g = e ∙ rw (f, g)
+
+-- not refused: the PDU is laid
+pub laid-so : {bad b : Bool} (pdu out : List ℕ) {after : List ℕ} {r : Written} {len n : ℕ} → r ≡ judged (length out) b len → b ≡ bad → len ≡ length pdu → r ≡ Length n → after ≡ laid out 0 pdu → (r ≡ written bad pdu out) × (after ≡ bufferAfter r pdu out)
+unfolding bufferAfter
+laid-so pdu out e f g told h = (answered pdu out e f g, rw told h)
+
+-- refused: nothing is touched
+pub refused-so : {bad b : Bool} (pdu out : List ℕ) {r : Written} {len : ℕ} {why : Refusal} → r ≡ judged (length out) b len → b ≡ bad → len ≡ length pdu → r ≡ Refused why → (r ≡ written bad pdu out) × (out ≡ bufferAfter r pdu out)
+unfolding bufferAfter
+refused-so pdu out e f g told = (answered pdu out e f g, rw told)
+
+pub length-request : (version : ℕ) (charges : Charges) → length (capsRequestBytes version charges) ≡ requestLength version
+unfolding requestLength
+length-request version charges = length-caps-request version charges
