@@ -1,15 +1,15 @@
 -- How long each PDU is.
 -- Assumes nothing.
-use mathlib.Core.Path.{_≡_, ap, _∙_}
+use mathlib.Core.Path.{_≡_}
 use mathlib.Core.Bool.{Bool, true, false, cond}
 use mathlib.Core.List.{List, _++_}
-use Prim.Native.Nat.{ℕ, suc, _+_, _≤_}
+use Prim.Native.Nat.{ℕ, _+_, _≤_}
 use native.Mathlib.Omega.{arith}
 use lib.Dec.{eqb}
 use lib.IntN.{ℤ}
 use lib.ListN.{length, length-append}
 use Rattle.reading.specs.declared.Charges.{Charges}
-use Rattle.numbers.specs.Numbers.{bytesOf, narrowest, narrowBytes, codeFor}
+use Rattle.numbers.specs.Numbers.{bytesOf, narrowest}
 use Rattle.numbers.specs.Status.{statusBytes, unsignedOf}
 use Rattle.numbers.proofs.Widths.{length-bytesOf, length-narrow, narrowest-le}
 use Rattle.laying.specs.Laying.{headOf, createRequestBytes, createResponseBytes, dataFirstHead, dataFirstBytes, dataBytes, closeBytes, capsHead, capsRequestBytes, capsResponseBytes}

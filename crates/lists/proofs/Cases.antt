@@ -1,9 +1,10 @@
 -- Going by cases on a test.
 -- Assumes nothing.
-use mathlib.Core.Path.{_≡_, refl}
-use mathlib.Core.Bool.{Bool, true, false, cond}
+use mathlib.Core.Path.{_≡_, refl, sym}
+use mathlib.Core.Bool.{Bool, true, false, cond, _&&_, _||_}
 use mathlib.Core.Logic.{_⊎_, inl, inr}
 use Prim.Native.Nat.{ℕ, _≤_, _<_}
+use native.Mathlib.Omega.{arith}
 use borrow.Author.Tests.{ltb-true, ltb-false, lt-ltb, le-ltb, le-leb, lt-leb, eq-eqb, ne-eqb}
 use lib.Dec.{ltb}
 
@@ -14,6 +15,25 @@ pub ruleset tests = (lt-ltb, le-ltb, le-leb, lt-leb, eq-eqb, ne-eqb)
 pub choice : {A : Type 0} (P : A → Type 0) (t : Bool) {a b : A} → (t ≡ true → P a) → (t ≡ false → P b) → P (cond t a b)
 choice P true f g = f refl
 choice P false f g = g refl
+
+-- two choices by one test agree where their arms do
+pub each : {A B : Type 0} (f g : A → B) (t : Bool) {a b c d : A} → f a ≡ g c → f b ≡ g d → f (cond t a b) ≡ g (cond t c d)
+each f g true p q = p
+each f g false p q = q
+
+-- the two answers differ
+pub true-not-false : _≡_ {A = Bool} true false → ⊥
+true-not-false e = let z : _≡_ {A = ℕ} 0 1 = cc in omega arith
+
+-- both hold
+pub both : (s t : Bool) → (s && t) ≡ true → (s ≡ true) × (t ≡ true)
+both true t h = (refl, h)
+both false t h = absurd (true-not-false (sym h))
+
+-- neither holds
+pub neither : (s t : Bool) → (s || t) ≡ false → (s ≡ false) × (t ≡ false)
+neither true t h = absurd (true-not-false h)
+neither false t h = (refl, h)
 
 -- one or the other
 pub lt-or-le : (a b : ℕ) → (a < b) ⊎ (b ≤ a)

@@ -1,13 +1,13 @@
 -- The laws of bytes laid over a list.
 -- Assumes nothing.
-use mathlib.Core.Path.{_≡_, refl, sym, ap, _∙_}
+use mathlib.Core.Path.{_≡_, refl, _∙_}
 use mathlib.Core.List.{List, [], _∷_, _++_, append-assoc, append-nil}
 use Prim.Native.Nat.{ℕ, zero, suc, _+_, _-_, _≤_, _<_, min}
-use native.Mathlib.Nat.{add-sub-cancel-left, zero-add}
+use native.Mathlib.Nat.{add-sub-cancel-left}
 use native.Mathlib.Numerals.{add-one}
 use native.Mathlib.Omega.{arith}
-use lib.ListN.{length, take, drop, getD, set, length-append, length-take, length-drop, length-set, replicate, length-replicate, drop-of-length-le}
-use lib.Seq.{sets, sets-eq, length-sets, set-out, drop-cons, take-at, take-all, drop-drop, drop-length}
+use lib.ListN.{length, take, drop, getD, set, length-drop, replicate, length-replicate, drop-of-length-le}
+use lib.Seq.{sets-eq, length-sets, set-out, drop-cons, take-at, take-all, drop-drop, drop-length}
 use mathlib.Core.Logic.{⊎-elim}
 use borrow.Rule.Slice.PartMut.{putMid}
 use Rattle.lists.proofs.Cases.{lt-or-le}

@@ -1,29 +1,26 @@
 -- The signed number of 32 bits, and the status of four bytes: the two directions undo each other.
 -- A signed local holds bits, so that goals speak of `toZ w32 (ofZ w32 z)`, which is z where z fits.
 -- Assumes nothing.
-use mathlib.Core.Path.{_≡_, refl, sym, ap, _∙_, subst}
+use mathlib.Core.Path.{_≡_, refl, sym, _∙_}
 use mathlib.Core.List.{List, [], _∷_, map}
 use mathlib.Core.Logic.{⊎-elim}
-use Prim.Native.Nat.{ℕ, zero, suc, _+_, _-_, _≤_, _<_, _^_}
+use Prim.Native.Nat.{ℕ, zero, suc, _-_, _≤_, _<_, _^_}
 use native.Mathlib.Nat.{zero-add}
 use native.Mathlib.Omega.{arith}
 use borrow.Author.Tests.{lt-ltb, le-ltb, leb-false}
-use mathlib.Core.Bool.{Bool, true, false}
+use mathlib.Core.Bool.{true, false}
 use lib.Signed.{leZ, nonNeg}
 use lib.IntN.{ℤ, pos, negsuc, natAbs, _-ℤ_}
-use lib.Dec.{T, ltb}
+use lib.Dec.{T}
 use mir.Syntax.{w32}
 use mir.Val.{toZ, ofZ, SFits, Fits}
 use mir.Facts.{toZ-pos, toZ-ofZ}
-use lib.ListN.{length, take}
+use lib.ListN.{length}
 use lib.Seq.{take-all}
-use Rattle.lists.proofs.Cases.{lt-or-le}
+use Rattle.lists.proofs.Cases.{lt-or-le, true-not-false}
 use Rattle.numbers.specs.Numbers.{little, bytesOf}
 use Rattle.numbers.specs.Status.{signedOf, unsignedOf, statusOf, statusBytes, isSuccess}
 use Rattle.numbers.proofs.Widths.{Bytes, little-below, little-bytesOf, bytesOf-little}
-
-false-ne-true : _≡_ {A = Bool} false true → ⊥
-false-ne-true e = let z : _≡_ {A = ℕ} 0 1 = cc in omega arith
 
 below : (k : ℕ) → negsuc 0 -ℤ pos k ≡ negsuc k
 below zero = refl
@@ -58,7 +55,7 @@ back z = toZ w32 (ofZ w32 z)
 up : (z : ℤ) → SFits w32 z → leZ (pos 0) z ≡ true → (T (nonNeg z) × Fits w32 (natAbs z)) × (natAbs z ≡ unsignedOf z)
 unfolding unsignedOf
 up (pos n) f t = ((tt, record { fits = omega (arith, f .sfits) }), refl)
-up (negsuc n) f t = absurd (false-ne-true t)
+up (negsuc n) f t = absurd (true-not-false (sym t))
 
 pub up-back : (z : ℤ) → SFits w32 z → leZ (pos 0) (back z) ≡ true → (T (nonNeg (back z)) × Fits w32 (natAbs (back z))) × (natAbs (back z) ≡ unsignedOf z)
 up-back z f t = rw (toZ-ofZ f) (up z f (rw (toZ-ofZ f) at t))

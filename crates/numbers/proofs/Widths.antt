@@ -1,16 +1,15 @@
 -- The laws of numbers in bytes, each once for all widths.
 -- Assumes nothing.
-use mathlib.Core.Path.{_≡_, refl, sym, ap, _∙_}
-use mathlib.Core.Bool.{Bool, true, false, cond}
+use mathlib.Core.Path.{_≡_, refl, ap}
 use mathlib.Core.List.{List, [], _∷_, _++_}
 use mathlib.Core.Logic.{⊎-elim}
 use Prim.Native.Nat.{ℕ, zero, suc, _+_, _*_, _/_, _%_, _^_, _≤_, _<_, _-_}
-use native.Mathlib.Nat.{mod-add-div, pow-suc, div-lt-iff-lt-mul, lt-of-lt-of-le, pow-le-pow-right}
+use native.Mathlib.Nat.{mod-add-div, pow-suc, div-lt-iff-lt-mul}
 use native.Mathlib.Omega.{arith}
 use borrow.Author.Tests.{lt-ltb, le-ltb}
 use lib.Dec.{lit<, lit≤, ltb, eqb}
 use lib.ListN.{length, take, drop, getD, length-take}
-use lib.Seq.{take-all, take-at, drop-at, take-take, getD-drop, getD-take, sets}
+use lib.Seq.{take-all, take-at, drop-at, getD-drop}
 use Rattle.lists.specs.Bytes.{laid, zeros}
 use Rattle.lists.proofs.Cases.{lt-or-le, choice}
 use Rattle.lists.proofs.Laid.{laid-past, laid-head}

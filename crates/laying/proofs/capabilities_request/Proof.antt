@@ -1,5 +1,5 @@
 -- `laying::capabilities_request` meets its contract: a request of version 1 is its head; the charges of another are laid behind it, one by one.
-use mathlib.Core.Path.{_≡_, sym, ap, _∙_}
+use mathlib.Core.Path.{_≡_, sym}
 use mathlib.Core.List.{List, _++_}
 use Prim.Native.Nat.{ℕ, _+_}
 use denote.Ref.{now}

@@ -1,6 +1,6 @@
 -- `laying::caps_head` meets its contract: the first byte and Pad are laid, and Version behind them.
 use mathlib.Core.Path.{refl}
-use mathlib.Core.List.{List, [], _∷_}
+use mathlib.Core.List.{[], _∷_}
 use Prim.Native.Nat.{_*_}
 use denote.Ref.{now}
 use Rattle.numbers.specs.Numbers.{bytesOf}

@@ -1,6 +1,6 @@
 -- `laying::create_request` meets its contract: the name is laid behind the head, and one zero byte behind the name.
 use mathlib.Core.Path.{ap, _∙_, sym}
-use mathlib.Core.List.{List, [], _∷_, _++_}
+use mathlib.Core.List.{[], _∷_, _++_}
 use Prim.Native.Nat.{ℕ, _+_}
 use denote.Ref.{now}
 use lib.ListN.{length, length-append}

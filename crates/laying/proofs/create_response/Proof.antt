@@ -1,6 +1,5 @@
 -- `laying::create_response` meets its contract: the four bytes of the status are laid behind the head.
 use mathlib.Core.Path.{ap, _∙_}
-use Prim.Native.Nat.{_+_}
 use denote.Ref.{now}
 use lib.ListN.{length-append}
 use mir.Syntax.{w32}

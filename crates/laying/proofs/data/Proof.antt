@@ -1,8 +1,6 @@
 -- `laying::data` meets its contract: the block is laid behind the head.
-use mathlib.Core.Path.{ap, _∙_}
-use Prim.Native.Nat.{_+_}
 use denote.Ref.{now}
-use lib.ListN.{length, length-append}
+use lib.ListN.{length-append}
 use Rattle.lists.proofs.Laid.{laid-next}
 use Rattle.laying.proofs.Lengths.{head-le}
 use Rattle.laying.specs.Laying.{headOf, dataBytes}

@@ -1,6 +1,4 @@
 -- `laying::data_first` meets its contract: the block is laid behind the head and Length.
-use mathlib.Core.Path.{ap, _∙_}
-use Prim.Native.Nat.{_+_}
 use denote.Ref.{now}
 use lib.ListN.{length-append}
 use Rattle.numbers.proofs.Widths.{narrowest-le}

@@ -1,6 +1,4 @@
 -- `laying::first_head` meets its contract: Length is laid behind the head, whose middle bits have its width.
-use mathlib.Core.Path.{ap, _∙_}
-use Prim.Native.Nat.{ℕ, _+_}
 use denote.Ref.{now}
 use lib.ListN.{length-append}
 use Rattle.numbers.specs.Numbers.{codeFor, narrowBytes}

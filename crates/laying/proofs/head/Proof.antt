@@ -1,6 +1,6 @@
 -- `laying::head` meets its contract: the first byte is laid, and the number behind it.
 use mathlib.Core.Path.{refl, ap, _∙_}
-use mathlib.Core.List.{List, [], _∷_}
+use mathlib.Core.List.{[], _∷_}
 use denote.Ref.{now}
 use Prim.Native.Nat.{ℕ, _+_, _*_, _%_}
 use Rattle.numbers.specs.Numbers.{codeFor, narrowBytes}

@@ -1,7 +1,7 @@
 -- `lists::copy` meets its contract. What is laid so far, with the rest of the block still to be laid, is always the whole
 -- block laid; at the end of either slice nothing more would be laid.
 use mathlib.Core.Path.{_≡_, refl, sym, _∙_}
-use Prim.Native.Nat.{_≤_, _-_, min}
+use Prim.Native.Nat.{_-_, min}
 use lib.ListN.{length, drop, length-set}
 use Rattle.lists.specs.Bytes.{laid}
 use Rattle.lists.proofs.Laid.{laid-turn, laid-end}

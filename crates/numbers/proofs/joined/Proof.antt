@@ -1,5 +1,5 @@
 -- `numbers::joined` meets its contract: the sum is the definition's, by places.
-use mathlib.Core.Path.{_≡_, sym, _∙_}
+use mathlib.Core.Path.{_≡_, sym}
 use lib.ListN.{length}
 use Rattle.numbers.proofs.Widths.{little-four}
 use borrow.Author.Needs.{needs}

@@ -1,8 +1,8 @@
 -- `numbers::put` meets its contract: the copier lays the low bytes.
 use mathlib.Core.Path.{_≡_, ap, _∙_}
 use denote.Ref.{now}
-use Prim.Native.Nat.{ℕ, min}
-use lib.ListN.{length, take, length-take}
+use Prim.Native.Nat.{min}
+use lib.ListN.{length, length-take}
 use Rattle.lists.specs.Bytes.{laid}
 use Rattle.lists.proofs.Laid.{take-least}
 use Rattle.numbers.specs.Numbers.{bytesOf}

@@ -1,6 +1,5 @@
 -- `reading::create_request` meets its contract: the name's length is the place of the first zero byte behind the number.
 use mathlib.Core.Path.{_≡_, ap, _∙_}
-use Prim.Native.Nat.{ℕ}
 use denote.Ref.{now}
 use lib.ListN.{drop}
 use Rattle.lists.specs.Places.{place}
