@@ -8,6 +8,9 @@ ghost use Rattle.paper.specs.Refusals.{refusalNumber};
 // The most bytes that a PDU has, and the fewest that the buffer for a written one has.
 pub const PDU_MAX: usize = 1600;
 
+// The most bytes that a listener list has.
+pub const LIST_MAX: usize = 512;
+
 // Cmd, the high four bits of a PDU's first byte.
 pub const CREATE: u8 = 1;
 
