@@ -1,3 +1,4 @@
 pub mod Sizes
 pub mod Commands
+pub mod Statuses
 pub mod Refusals

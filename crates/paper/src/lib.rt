@@ -8,6 +8,19 @@ ghost use Rattle.paper.specs.Refusals.{refusalNumber};
 // The most bytes that a PDU has, and the fewest that the buffer for a written one has.
 pub const PDU_MAX: usize = 1600;
 
+// The most bytes that a message has.
+pub const MESSAGE_MAX: usize = 4096;
+
+// The records of the table, each with its own part of the store, which holds a message.
+pub const PARTS: usize = 16;
+
+pub const PART: usize = MESSAGE_MAX;
+
+pub const STORE: usize = PARTS * PART;
+
+// The fewest bytes that a reply buffer has.
+pub const REPLY_MIN: usize = 9;
+
 // The most bytes that a listener list has.
 pub const LIST_MAX: usize = 512;
 
@@ -21,6 +34,13 @@ pub const DATA: u8 = 3;
 pub const CLOSE: u8 = 4;
 
 pub const CAPABILITIES: u8 = 5;
+
+// CreationStatus of a channel that is opened, that no listener is there for, and that no record is free for.
+pub const OPENED: i32 = 0;
+
+pub const UNLISTED: i32 = -2147023728;
+
+pub const FULL: i32 = -2147024882;
 
 // Why an entry refuses: the paper's table, with its number and its sentence beside each name.
 pub enum Refusal {
