@@ -1,12 +1,11 @@
 -- THE RULES OF ONE CHANNEL: what each event does to it, what is answered and what is sent. Every step of the manager goes
 -- through `act`, so each rule of "The client's steps" and each refusal from 6 to 13 stands here and nowhere else.
-use Prim.Native.Nat.{ℕ, _+_, _-_}
+use Prim.Native.Nat.{ℕ, _-_}
 use mathlib.Core.Bool.{Bool, true, false, cond}
 use mathlib.Core.List.{List, []}
 use lib.Dec.{eqb}
 use lib.ListN.{length}
 use Rattle.paper.specs.Statuses.{OPENED, UNLISTED, FULL}
-use Rattle.paper.specs.declared.Refusal.{Refusal}
 use Rattle.paper.specs.declared.Refusal.the-variants.{BadList, NotOpen, AlreadyOpen}
 use Rattle.lists.specs.Bytes.{laid}
 use Rattle.laying.specs.Laying.{createResponseBytes, closeBytes}
@@ -15,7 +14,6 @@ use Rattle.channel.specs.declared.Stage.{Stage}
 use Rattle.channel.specs.declared.Stage.the-variants.{Idle, Joining, Spoiled}
 use Rattle.channel.specs.declared.Record.{Record}
 use Rattle.channel.specs.declared.Offer.{Offer}
-use Rattle.channel.specs.declared.Offer.the-variants.{First, More}
 use Rattle.channel.specs.declared.Took.{Took}
 use Rattle.channel.specs.declared.Took.the-variants.{Bars, Spoils, Holds, Finishes}
 use Rattle.channel.specs.declared.Decline.the-variants.{Unlisted, Full}
