@@ -1,0 +1,41 @@
+-- What a received PDU is an event of.
+use Prim.Native.Nat.{ℕ}
+use mathlib.Core.Bool.{Bool, true, false, cond}
+use mathlib.Core.List.{List}
+use Rattle.paper.specs.declared.Refusal.{Refusal}
+use Rattle.paper.specs.declared.Refusal.the-variants.{WrongTime}
+use Rattle.reading.specs.Said.{bytesAt}
+use Rattle.reading.specs.declared.Pdu.{Pdu}
+use Rattle.reading.specs.declared.Pdu.the-variants.{CreateRequest, CreateResponse, DataFirst, Data, Close, CapsRequest, CapsResponse, Refused}
+use Rattle.listeners.specs.Listeners.{goodList, isListed}
+use Rattle.channel.specs.declared.Offer.the-variants.{First, More}
+use Rattle.channel.specs.Channel.{Act, BadCreate, Create, Bring, Closing, LocalClose}
+
+pub data Event : Type 0 where
+  -- a PDU that reading refuses
+  Unreadable : Refusal → Event
+  -- a Capabilities request of a version
+  Capabilities : ℕ → Event
+  -- an event of the channel with a number
+  Of : ℕ → Act → Event
+
+-- what a Create request asks, by the list that the host lends and the request's name and Pri
+unfoldable pub createAct : List ℕ → List ℕ → ℕ → Act
+createAct list name pri = cond (goodList list) (Create (isListed list name) pri) BadCreate
+
+-- a Close, or a close by the host
+abbrev pub closeAct : Bool → Act
+closeAct true = LocalClose
+closeAct false = Closing
+
+-- a PDU's event, from what reading finds in it. Only a Create request judges the listener list.
+-- Responses are never read in a PDU from the server.
+unfoldable pub eventOf : List ℕ → List ℕ → Pdu → Event
+eventOf list pdu (CreateRequest n class name) = Of n (createAct list (bytesAt pdu name) class)
+eventOf list pdu (CreateResponse n status) = Unreadable WrongTime
+eventOf list pdu (DataFirst n len block) = Of n (Bring (First len) (bytesAt pdu block))
+eventOf list pdu (Data n block) = Of n (Bring More (bytesAt pdu block))
+eventOf list pdu (Close n) = Of n Closing
+eventOf list pdu (CapsRequest version charges) = Capabilities version
+eventOf list pdu (CapsResponse version) = Unreadable WrongTime
+eventOf list pdu (Refused why) = Unreadable why

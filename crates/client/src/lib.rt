@@ -1,0 +1,274 @@
+// The client end: start, receive, local close.
+//
+// The host keeps the table and the store. `start` makes both; then each received PDU goes to `receive` and each close by
+// the host to `local_close`, with the table of the call before. A refusal writes nothing to store and reply and changes no
+// channel, but that refusals 10, 11 and 12 turn the one channel's stage to spoiled. Every entry takes anything.
+use channel::Answer;
+use channel::Concern;
+use channel::Decline;
+use channel::Offer;
+use channel::Record;
+use channel::Stage;
+use channel::Took;
+use paper::PARTS;
+use paper::Refusal;
+use table::Table;
+ghost use mathlib.Core.Path.{_≡_};
+ghost use mathlib.Core.List.{List};
+ghost use Prim.Native.Nat.{ℕ, _-_, _<_, min};
+ghost use lib.ListN.{length};
+ghost use Rattle.paper.specs.Sizes.{PARTS, STORE};
+ghost use Rattle.paper.specs.Statuses.{OPENED};
+ghost use Rattle.lists.specs.Bytes.{laid};
+ghost use Rattle.laying.specs.Laying.{createResponseBytes};
+ghost use Rattle.channel.specs.Channel.{Open, restaged, landed, classAt, openedRecord, Bring};
+ghost use Rattle.table.specs.Table.{numberPlace, recordAt, withRecord};
+ghost use Rattle.store.specs.Parts.{part};
+ghost use Rattle.client.specs.State.{stateOf};
+ghost use Rattle.client.specs.Events.{Capabilities, Of, createAct, closeAct};
+ghost use Rattle.client.specs.Client.{Gives, finished, stepped};
+
+// Whether Start did its work.
+pub enum Begun {
+    Done,
+    Refused(Refusal),
+}
+
+// What Start gives: the empty table, refused or not.
+pub struct Started {
+    pub table: Table,
+    pub begun: Begun,
+}
+
+// What a received PDU or a local close gives: the next table, the answer, and how many bytes of the reply to send.
+pub struct Received {
+    pub table: Table,
+    pub answer: Answer,
+    pub sent: usize,
+}
+
+// A refusal sends nothing.
+fn refused(table: Table, why: Refusal, concern: Concern) -> Received
+    ensures { λ r. ⌜ r ≡ record { table = table; answer = Answer.Refused why concern; sent = 0 } ⌝ }
+{
+    Received {
+        table,
+        answer: Answer::Refused { why, concern },
+        sent: 0,
+    }
+}
+
+// The level in use: the smaller of the server's version and 2.
+fn level_of(version: u16) -> u8
+    ensures { λ r. ⌜ r ≡ min version 2 ⌝ }
+{
+    if version < 2 {
+        return version as u8;
+    }
+    2
+}
+
+// A Capabilities request makes the connection ready.
+fn on_capabilities(table: Table, version: u16, reply: &mut [u8]) -> Received
+    ensures { λ r. ⌜ ((store : List ℕ) → Gives (stepped (stateOf table store) (Capabilities version)) (now (reply .entry)) r store (now (reply .exit))) ⌝ }
+{
+    if table.ready {
+        return refused(table, Refusal::WrongTime, Concern::NoChannel);
+    }
+    let level = level_of(version);
+    let sent = laying::capabilities_response(reply, 2);
+    let records = table.records;
+    let ready = Table {
+        ready: true,
+        level,
+        records,
+    };
+    Received {
+        table: ready,
+        answer: Answer::Ready { level },
+        sent,
+    }
+}
+
+// A Create request that is declined: the reply has the status, and no record is taken.
+fn declined(table: Table, number: u32, why: Decline, status: i32, reply: &mut [u8]) -> Received
+    ensures { λ r. ⌜ r ≡ record { table = table; answer = Answer.Declined number why; sent = length (createResponseBytes number status) } ⌝ }
+    ensures { λ _. ⌜ now (reply .exit) ≡ laid (now (reply .entry)) 0 (createResponseBytes number status) ⌝ }
+{
+    let sent = laying::create_response(reply, number, status);
+    Received {
+        table,
+        answer: Answer::Declined { number, why },
+        sent,
+    }
+}
+
+// Class is Pri at level 2, and 0 at level 1.
+fn class_at(level: u8, pri: u8) -> u8
+    ensures { λ r. ⌜ r ≡ classAt level pri ⌝ }
+{
+    if level == 2 {
+        return pri;
+    }
+    0
+}
+
+// A channel is opened in the record at place k.
+fn opened(table: Table, k: usize, number: u32, pri: u8, reply: &mut [u8]) -> Received
+    ensures { λ r. ⌜ r ≡ record { table = withRecord table k (openedRecord (table .level) number pri); answer = Answer.Opened number; sent = length (createResponseBytes number OPENED) } ⌝ }
+    ensures { λ _. ⌜ now (reply .exit) ≡ laid (now (reply .entry)) 0 (createResponseBytes number OPENED) ⌝ }
+{
+    let class = class_at(table.level, pri);
+    let record = Record {
+        taken: true,
+        number,
+        class,
+        stage: Stage::Idle,
+    };
+    let sent = laying::create_response(reply, number, paper::OPENED);
+    Received {
+        table: table::with_record(table, k, record),
+        answer: Answer::Opened { number },
+        sent,
+    }
+}
+
+// A Create request.
+fn on_create(
+    table: Table,
+    list: &[u8],
+    number: u32,
+    pri: u8,
+    name: &[u8],
+    reply: &mut [u8],
+) -> Received
+    ensures { λ r. ⌜ ((store : List ℕ) → length store ≡ STORE → Gives (stepped (stateOf table store) (Of number (createAct (now (list .entry)) (now (name .entry)) pri))) (now (reply .entry)) r store (now (reply .exit))) ⌝ }
+{
+    if !table.ready {
+        return refused(table, Refusal::WrongTime, Concern::NoChannel);
+    }
+    if !listeners::good(list) {
+        return refused(table, Refusal::BadList, Concern::NoChannel);
+    }
+    if table::find_number(table, number) < PARTS {
+        return refused(table, Refusal::AlreadyOpen, Concern::Channel(number));
+    }
+    if !listeners::listed(list, name) {
+        return declined(table, number, Decline::Unlisted, paper::UNLISTED, reply);
+    }
+    let k = table::find_free(table);
+    if PARTS <= k {
+        return declined(table, number, Decline::Full, paper::FULL, reply);
+    }
+    opened(table, k, number, pri, reply)
+}
+
+// The table with the record at place k in another stage.
+fn restage(table: Table, k: usize, stage: Stage) -> Table
+    ensures { λ r. ⌜ r ≡ withRecord table k (restaged (recordAt table k) stage) ⌝ }
+{
+    let record = table::record_at(table, k);
+    let next = Record {
+        taken: record.taken,
+        number: record.number,
+        class: record.class,
+        stage,
+    };
+    table::with_record(table, k, next)
+}
+
+// How many bytes of a message are still to come.
+fn left(wanted: u16, held: u16) -> usize
+    ensures { λ r. ⌜ r ≡ wanted - held ⌝ }
+{
+    if held < wanted {
+        return (wanted - held) as usize;
+    }
+    0
+}
+
+// What data does to the channel at place k.
+fn land(table: Table, store: &mut [u8], k: usize, number: u32, block: &[u8], took: Took) -> Received
+    requires { ⌜ (length (now store) ≡ STORE) × (k < PARTS) × (k ≡ numberPlace number table) ⌝ }
+    ensures { λ r. ⌜ ((reply : List ℕ) → Gives (finished number (stateOf table (now (store .entry))) (Open (recordAt table k) (part (now (store .entry)) k)) (landed number (recordAt table k) (part (now (store .entry)) k) (now (block .entry)) took)) reply r (now (store .exit)) reply) ⌝ }
+{
+    match took {
+        Took::Bars(why) => refused(table, why, Concern::Channel(number)),
+        Took::Spoils(why) => refused(
+            restage(table, k, Stage::Spoiled),
+            why,
+            Concern::Channel(number),
+        ),
+        Took::Holds { wanted, at, held } => {
+            store::put_block(store, k, at as usize, block);
+            Received {
+                table: restage(table, k, Stage::Joining { wanted, held }),
+                answer: Answer::Held {
+                    number,
+                    left: left(wanted, held),
+                },
+                sent: 0,
+            }
+        }
+        Took::Finishes { at, len } => {
+            store::put_block(store, k, at as usize, block);
+            Received {
+                table: restage(table, k, Stage::Idle),
+                answer: Answer::Message { number, len },
+                sent: 0,
+            }
+        }
+    }
+}
+
+// A Data First or a Data.
+fn on_data(table: Table, store: &mut [u8], number: u32, offer: Offer, block: &[u8]) -> Received
+    requires { ⌜ length (now store) ≡ STORE ⌝ }
+    ensures { λ r. ⌜ ((reply : List ℕ) → Gives (stepped (stateOf table (now (store .entry))) (Of number (Bring offer (now (block .entry))))) reply r (now (store .exit)) reply) ⌝ }
+{
+    if !table.ready {
+        return refused(table, Refusal::WrongTime, Concern::NoChannel);
+    }
+    let k = table::find_number(table, number);
+    if PARTS <= k {
+        return refused(table, Refusal::NotOpen, Concern::Channel(number));
+    }
+    let record = table::record_at(table, k);
+    let stage = record.stage;
+    land(
+        table,
+        store,
+        k,
+        number,
+        block,
+        channel::take(stage, offer, block.len()),
+    )
+}
+
+// A Close or, by the host, a local close.
+fn on_close(table: Table, store: &mut [u8], number: u32, local: bool, reply: &mut [u8]) -> Received
+    requires { ⌜ length (now store) ≡ STORE ⌝ }
+    ensures { λ r. ⌜ Gives (stepped (stateOf table (now (store .entry))) (Of number (closeAct local))) (now (reply .entry)) r (now (store .exit)) (now (reply .exit)) ⌝ }
+{
+    if !table.ready {
+        return refused(table, Refusal::WrongTime, Concern::NoChannel);
+    }
+    let k = table::find_number(table, number);
+    if PARTS <= k {
+        if local {
+            return refused(table, Refusal::NotOpen, Concern::Channel(number));
+        }
+        return Received {
+            table,
+            answer: Answer::Ignored { number },
+            sent: 0,
+        };
+    }
+    store::clear_part(store, k);
+    let sent = laying::close(reply, number);
+    Received {
+        table: table::with_record(table, k, table::blank()),
+        answer: Answer::Closed { number },
+        sent,
+    }
+}
