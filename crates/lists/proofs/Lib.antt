@@ -1,3 +1,4 @@
 pub mod Places
 pub mod Laid
 pub mod Cases
+pub mod One
