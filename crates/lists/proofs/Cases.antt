@@ -1,6 +1,6 @@
--- Going by cases on a test.
+-- Going by cases on a test, and two that are the same.
 -- Assumes nothing.
-use mathlib.Core.Path.{_≡_, refl, sym}
+use mathlib.Core.Path.{_≡_, refl, sym, _∙_}
 use mathlib.Core.Bool.{Bool, true, false, cond, _&&_, _||_}
 use mathlib.Core.Logic.{_⊎_, inl, inr}
 use Prim.Native.Nat.{ℕ, _≤_, _<_}
@@ -42,3 +42,7 @@ lt-or-le a b = go (ltb a b) refl
     go : (t : Bool) → ltb a b ≡ t → (a < b) ⊎ (b ≤ a)
     go true e = inl (ltb-true a b e)
     go false e = inr (ltb-false a b e)
+
+-- two that are both a third: how one outcome is shown
+pub same : {A : Type 0} {x y v : A} → x ≡ v → y ≡ v → x ≡ y
+same p q = p ∙ sym q

@@ -1,4 +1,5 @@
+pub mod Cases
 pub mod Places
 pub mod Laid
-pub mod Cases
 pub mod Arrays
+pub mod One

@@ -1,2 +1,3 @@
 pub mod Widths
 pub mod Signs
+pub mod One

@@ -6,10 +6,10 @@ use channel::Stage;
 use paper::MESSAGE_MAX;
 use paper::PARTS;
 ghost use mathlib.Core.Path.{_≡_};
-ghost use Prim.Native.Nat.{_≤_};
+ghost use mathlib.Core.Bool.{true};
 ghost use lib.ListN.{drop};
-ghost use Rattle.channel.specs.Channel.{blank as blankRecord};
-ghost use Rattle.table.specs.Table.{emptyTable, holds as isHolder, recordAt, withRecord, numberPlace, freePlace};
+ghost use Rattle.channel.specs.Channel.{blank};
+ghost use Rattle.table.specs.Table.{emptyTable, holds, recordAt, withRecord, numberPlace, freePlace};
 ghost use Rattle.table.specs.Sound.{some, every, noNumberTwice, goodStage, goodRecord, goodLevel, soundTable};
 
 pub struct Table {
@@ -21,7 +21,7 @@ pub struct Table {
 
 // A free record.
 pub fn blank() -> Record
-    ensures { λ r. ⌜ r ≡ blankRecord ⌝ }
+    ensures { λ r. ⌜ r ≡ blank ⌝ }
 {
     Record {
         taken: false,
@@ -67,7 +67,7 @@ pub fn with_record(table: Table, k: usize, record: Record) -> Table
 
 // Whether the record is open with the number.
 fn holds(record: Record, number: u32) -> bool
-    ensures { λ r. ⌜ r ≡ isHolder number «record» ⌝ }
+    ensures { λ r. ⌜ r ≡ holds number «record» ⌝ }
 {
     record.taken && record.number == number
 }
@@ -106,4 +106,130 @@ pub fn find_free(table: Table) -> usize
         i += 1;
     };
     k
+}
+
+// Whether a record from the place on holds the number.
+fn held_from(table: Table, k: usize, number: u32) -> bool
+    ensures { λ r. ⌜ r ≡ some (holds number) (drop k (table .records)) ⌝ }
+{
+    let mut i = k;
+    while i < PARTS {
+        let record = table.records[i];
+        if holds(record, number) {
+            return true;
+        }
+        i += 1;
+    }
+    false
+}
+
+// The marks of a pass over the records: a number's mark is its remainder.
+const MARKS: usize = 64;
+
+// Whether no two open records share a mark, in one pass from the last to the first. Then no number stands in two.
+fn marks_apart(table: Table) -> bool
+    ensures { λ r. ⌜ (r ≡ true → noNumberTwice (table .records) ≡ true) ⌝ }
+{
+    let mut marks = [false; MARKS];
+    let mut i = PARTS;
+    while 0 < i {
+        i -= 1;
+        let record = table.records[i];
+        if record.taken {
+            let mark = record.number as usize % MARKS;
+            if marks[mark] {
+                return false;
+            }
+            marks[mark] = true;
+        }
+    }
+    true
+}
+
+// Whether no number stands in two open records, each compared with those behind it.
+fn pairs_apart(table: Table) -> bool
+    ensures { λ r. ⌜ r ≡ noNumberTwice (table .records) ⌝ }
+{
+    let mut i = 0;
+    while i < PARTS {
+        let record = table.records[i];
+        if record.taken && held_from(table, i + 1, record.number) {
+            return false;
+        }
+        i += 1;
+    }
+    true
+}
+
+// Whether no number stands in two open records. Where marks differ, which they mostly do, no pair is compared.
+fn no_number_twice(table: Table) -> bool
+    ensures { λ r. ⌜ r ≡ noNumberTwice (table .records) ⌝ }
+{
+    if marks_apart(table) {
+        return true;
+    }
+    pairs_apart(table)
+}
+
+// Whether the stage can stand in a sound table: a message being joined is not whole yet, and fits a part.
+fn good_stage(stage: Stage) -> bool
+    ensures { λ r. ⌜ r ≡ goodStage stage ⌝ }
+{
+    match stage {
+        Stage::Idle => true,
+        Stage::Joining { wanted, held } => held < wanted && wanted as usize <= MESSAGE_MAX,
+        Stage::Spoiled => true,
+    }
+}
+
+// Whether the record can stand in a sound table: its class, its stage, and that it is not open when not ready.
+fn good_record(ready: bool, record: Record) -> bool
+    ensures { λ r. ⌜ r ≡ goodRecord ready «record» ⌝ }
+{
+    if 3 < record.class {
+        return false;
+    }
+    let stage = record.stage;
+    if !good_stage(stage) {
+        return false;
+    }
+    ready || !record.taken
+}
+
+// Whether every record can.
+fn good_records(table: Table) -> bool
+    ensures { λ r. ⌜ r ≡ every (goodRecord (table .ready)) (table .records) ⌝ }
+{
+    let mut i = 0;
+    while i < PARTS {
+        let record = table.records[i];
+        if !good_record(table.ready, record) {
+            return false;
+        }
+        i += 1;
+    }
+    true
+}
+
+// Whether the level is 1 or 2, when ready.
+fn good_level(ready: bool, level: u8) -> bool
+    ensures { λ r. ⌜ r ≡ goodLevel ready level ⌝ }
+{
+    if !ready {
+        return true;
+    }
+    level == 1 || level == 2
+}
+
+// Whether the table is sound.
+pub fn sound(table: Table) -> bool
+    ensures { λ r. ⌜ r ≡ soundTable table ⌝ }
+{
+    if !no_number_twice(table) {
+        return false;
+    }
+    if !good_records(table) {
+        return false;
+    }
+    good_level(table.ready, table.level)
 }
