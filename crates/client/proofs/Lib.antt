@@ -1,3 +1,4 @@
 pub mod Steps
 pub mod Landing
 pub mod Creating
+pub mod Calls

@@ -12,6 +12,7 @@ use channel::Stage;
 use channel::Took;
 use paper::PARTS;
 use paper::Refusal;
+use reading::Pdu;
 use table::Table;
 ghost use mathlib.Core.Path.{_≡_};
 ghost use mathlib.Core.List.{List};
@@ -19,14 +20,16 @@ ghost use Prim.Native.Nat.{ℕ, _-_, _<_, min};
 ghost use lib.ListN.{length};
 ghost use Rattle.paper.specs.Sizes.{PARTS, STORE};
 ghost use Rattle.paper.specs.Statuses.{OPENED};
+ghost use mathlib.Core.Bool.{true};
 ghost use Rattle.lists.specs.Bytes.{laid};
+ghost use Rattle.reading.specs.Reading.{readPdu};
 ghost use Rattle.laying.specs.Laying.{createResponseBytes};
 ghost use Rattle.channel.specs.Channel.{Open, restaged, landed, classAt, openedRecord, Bring};
 ghost use Rattle.table.specs.Table.{numberPlace, recordAt, withRecord};
 ghost use Rattle.store.specs.Parts.{part};
 ghost use Rattle.client.specs.State.{stateOf};
-ghost use Rattle.client.specs.Events.{Capabilities, Of, createAct, closeAct};
-ghost use Rattle.client.specs.Client.{Gives, finished, stepped};
+ghost use Rattle.client.specs.Events.{Capabilities, Of, createAct, closeAct, eventOf};
+ghost use Rattle.client.specs.Client.{Gives, finished, stepped, badCall, received, locallyClosed, started, storeStarted};
 
 // Whether Start did its work.
 pub enum Begun {
@@ -271,4 +274,110 @@ fn on_close(table: Table, store: &mut [u8], number: u32, local: bool, reply: &mu
         answer: Answer::Closed { number },
         sent,
     }
+}
+
+// A received PDU: what reading finds in it goes to the function for its kind.
+fn on_pdu(table: Table, store: &mut [u8], list: &[u8], pdu: &[u8], reply: &mut [u8]) -> Received
+    requires { ⌜ length (now store) ≡ STORE ⌝ }
+    ensures { λ r. ⌜ Gives (stepped (stateOf table (now (store .entry))) (eventOf (now (list .entry)) (now (pdu .entry)) (readPdu true (now (pdu .entry))))) (now (reply .entry)) r (now (store .exit)) (now (reply .exit)) ⌝ }
+{
+    let read = reading::read(pdu, true);
+    match read {
+        Pdu::Refused(why) => refused(table, why, Concern::NoChannel),
+        Pdu::CapsRequest {
+            version,
+            charges: _,
+        } => on_capabilities(table, version, reply),
+        Pdu::CreateRequest {
+            number,
+            class,
+            name,
+        } => {
+            let at = name.at;
+            let end = at + name.len;
+            on_create(table, list, number, class, &pdu[at..end], reply)
+        }
+        Pdu::DataFirst {
+            number,
+            length,
+            block,
+        } => {
+            let at = block.at;
+            let end = at + block.len;
+            on_data(table, store, number, Offer::First(length), &pdu[at..end])
+        }
+        Pdu::Data { number, block } => {
+            let at = block.at;
+            let end = at + block.len;
+            on_data(table, store, number, Offer::More, &pdu[at..end])
+        }
+        Pdu::Close { number } => on_close(table, store, number, false, reply),
+        // Responses are never read in a PDU from the server.
+        Pdu::CreateResponse {
+            number: _,
+            status: _,
+        } => refused(table, Refusal::WrongTime, Concern::NoChannel),
+        Pdu::CapsResponse { version: _ } => refused(table, Refusal::WrongTime, Concern::NoChannel),
+    }
+}
+
+// Refusal 1: the store or the reply buffer is not of its size, or the table is unsound.
+fn bad_call(table: Table, store: usize, reply: usize) -> bool
+    ensures { λ r. ⌜ r ≡ badCall table store reply ⌝ }
+{
+    if store != paper::STORE {
+        return true;
+    }
+    if reply < paper::REPLY_MIN {
+        return true;
+    }
+    !table::sound(table)
+}
+
+// Zeroes the store and gives the empty table. A store of another size is left as it is.
+pub fn start(store: &mut [u8]) -> Started
+    ensures { λ r. ⌜ r ≡ started (now (store .entry)) ⌝ }
+    ensures { λ _. ⌜ now (store .exit) ≡ storeStarted (now (store .entry)) ⌝ }
+{
+    if store.len() != paper::STORE {
+        return Started {
+            table: table::empty(),
+            begun: Begun::Refused(Refusal::WrongSize),
+        };
+    }
+    lists::clear(store);
+    Started {
+        table: table::empty(),
+        begun: Begun::Done,
+    }
+}
+
+// A PDU from the server, with the names that the host listens for. The reply goes to the reply buffer.
+pub fn receive(
+    table: Table,
+    store: &mut [u8],
+    list: &[u8],
+    pdu: &[u8],
+    reply: &mut [u8],
+) -> Received
+    ensures { λ r. ⌜ r ≡ received table (now (store .entry)) (now (list .entry)) (now (pdu .entry)) (now (reply .entry)) .result ⌝ }
+    ensures { λ _. ⌜ now (store .exit) ≡ received table (now (store .entry)) (now (list .entry)) (now (pdu .entry)) (now (reply .entry)) .store ⌝ }
+    ensures { λ _. ⌜ now (reply .exit) ≡ received table (now (store .entry)) (now (list .entry)) (now (pdu .entry)) (now (reply .entry)) .reply ⌝ }
+{
+    if bad_call(table, store.len(), reply.len()) {
+        return refused(table, Refusal::WrongSize, Concern::NoChannel);
+    }
+    on_pdu(table, store, list, pdu, reply)
+}
+
+// The host closes a channel. The reply is a Close.
+pub fn local_close(table: Table, store: &mut [u8], number: u32, reply: &mut [u8]) -> Received
+    ensures { λ r. ⌜ r ≡ locallyClosed table (now (store .entry)) number (now (reply .entry)) .result ⌝ }
+    ensures { λ _. ⌜ now (store .exit) ≡ locallyClosed table (now (store .entry)) number (now (reply .entry)) .store ⌝ }
+    ensures { λ _. ⌜ now (reply .exit) ≡ locallyClosed table (now (store .entry)) number (now (reply .entry)) .reply ⌝ }
+{
+    if bad_call(table, store.len(), reply.len()) {
+        return refused(table, Refusal::WrongSize, Concern::NoChannel);
+    }
+    on_close(table, store, number, true, reply)
 }
