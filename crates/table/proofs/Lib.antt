@@ -1,3 +1,6 @@
 pub mod Every
 pub mod Twice
 pub mod Marks
+pub mod Records
+pub mod Soundness
+pub mod One

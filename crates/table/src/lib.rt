@@ -19,7 +19,7 @@ pub struct Table {
     pub records: [Record; PARTS],
 }
 
-// A free record.
+// A free record, as Start makes it.
 pub fn blank() -> Record
     ensures { λ r. ⌜ r ≡ blank ⌝ }
 {
@@ -79,7 +79,7 @@ pub fn find_number(table: Table, number: u32) -> usize
     let mut i = 0;
     let k = loop {
         if i == PARTS {
-            break PARTS;
+            break i;
         }
         let record = table.records[i];
         if holds(record, number) {
@@ -123,7 +123,7 @@ fn held_from(table: Table, k: usize, number: u32) -> bool
     false
 }
 
-// The marks of a pass over the records: a number's mark is its remainder.
+// The marks that the open records' numbers fall on: a number's mark is its remainder by this.
 const MARKS: usize = 64;
 
 // Whether no two open records share a mark, in one pass from the last to the first. Then no number stands in two.
@@ -161,7 +161,8 @@ fn pairs_apart(table: Table) -> bool
     true
 }
 
-// Whether no number stands in two open records. Where marks differ, which they mostly do, no pair is compared.
+// Whether no number stands in two open records. Numbers that the server counts up differ in their marks, and then no
+// pair is compared.
 fn no_number_twice(table: Table) -> bool
     ensures { λ r. ⌜ r ≡ noNumberTwice (table .records) ⌝ }
 {
@@ -196,7 +197,7 @@ fn good_record(ready: bool, record: Record) -> bool
     ready || !record.taken
 }
 
-// Whether every record can.
+// Whether every record can stand in a sound table.
 fn good_records(table: Table) -> bool
     ensures { λ r. ⌜ r ≡ every (goodRecord (table .ready)) (table .records) ⌝ }
 {
@@ -221,7 +222,8 @@ fn good_level(ready: bool, level: u8) -> bool
     level == 1 || level == 2
 }
 
-// Whether the table is sound.
+// Whether the table is sound. The manager asks at every call, so each record is looked at twice and no more, unless two
+// numbers share a mark.
 pub fn sound(table: Table) -> bool
     ensures { λ r. ⌜ r ≡ soundTable table ⌝ }
 {

@@ -46,22 +46,19 @@ loop-again : tie.Need-loop-again Inv-loop μ-loop
 unfolding PARTS
 loop-again c =
     let l = c .before .before .before .before .loop in
-    let rs = c .before .before .before .before .before .args .t1 .records in
-    (omega arith, l .inv .1, search-miss (holds (c .before .before .before .before .before .args .number)) rs (l .i) blank (omega arith) (sym (c .before .holds .ensures) ∙ c .if2 .left) (l .inv .2))
+    (omega arith, l .inv .1, search-miss _ _ (l .i) blank (omega arith) (sym (c .before .holds .ensures) ∙ c .if2 .left) (l .inv .2))
 
 returns : tie.Need-returns Inv-loop μ-loop
 unfolding PARTS numberPlace
 returns c =
     let l = c .before .loop in
-    let rs = c .before .before .args .t1 .records in
-    sym (c .if1 .taken) ∙ search-end (holds (c .before .before .args .number)) rs (l .i) (omega arith) (l .inv .2)
+    search-end _ _ (l .i) (omega arith) (l .inv .2)
 
 returns-2 : tie.Need-returns-2 Inv-loop μ-loop
 unfolding PARTS numberPlace
 returns-2 c =
     let l = c .before .before .before .before .loop in
-    let rs = c .before .before .before .before .before .args .t1 .records in
-    search-hit (holds (c .before .before .before .before .before .args .number)) rs (l .i) blank (omega arith) (sym (c .before .holds .ensures) ∙ c .if2 .taken) (l .inv .2)
+    search-hit _ _ (l .i) blank (omega arith) (sym (c .before .holds .ensures) ∙ c .if2 .taken) (l .inv .2)
 
 pub find-number-spec : {M : Type 1} → statement M
 find-number-spec =
