@@ -5,3 +5,4 @@ pub mod Calls
 pub mod Frame
 pub mod Acts
 pub mod Channels
+pub mod Refusals

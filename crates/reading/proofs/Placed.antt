@@ -1,5 +1,5 @@
 -- Every place that reading answers lies within the PDU: data goes to its end, a name to the zero byte that ends it.
--- A class is two bits.
+-- A class is two bits, and a version 1 to 3.
 -- Assumes nothing.
 use mathlib.Core.Path.{_≡_}
 use mathlib.Core.Bool.{Bool, not}
@@ -25,8 +25,8 @@ Placed pdu (CreateResponse number status) = Unit {0}
 Placed pdu (DataFirst number len block) = block .at + block .len ≡ length pdu
 Placed pdu (Data number block) = block .at + block .len ≡ length pdu
 Placed pdu (Close number) = Unit {0}
-Placed pdu (CapsRequest version charges) = Unit {0}
-Placed pdu (CapsResponse version) = Unit {0}
+Placed pdu (CapsRequest version charges) = (1 ≤ version) × (version ≤ 3)
+Placed pdu (CapsResponse version) = (1 ≤ version) × (version ≤ 3)
 Placed pdu (Refused why) = Unit {0}
 
 module _ (pdu : List ℕ) where
@@ -68,18 +68,20 @@ module _ (pdu : List ℕ) where
       (λ f. choice (Placed pdu) (ltb (length pdu) (1 + widthOf cbId)) (λ g. tt)
       (λ g. after fromServer cmd middle (valueAt pdu 1 (widthOf cbId)) (1 + widthOf cbId) (ltb-false _ _ g) k)))
 
-  requested : (version : ℕ) → Placed pdu (charged pdu version)
+  requested : (version : ℕ) → 1 ≤ version → version ≤ 3 → Placed pdu (charged pdu version)
   unfolding charged
-  requested version =
-      choice (Placed pdu) (eqb version 1) (λ e. choice (Placed pdu) (ltb 4 (length pdu)) (λ f. tt) (λ f. tt))
-      (λ e. choice (Placed pdu) (ltb (length pdu) 12) (λ f. tt) (λ f. choice (Placed pdu) (ltb 12 (length pdu)) (λ g. tt) (λ g. tt)))
+  requested version h k =
+      choice (Placed pdu) (eqb version 1) (λ e. choice (Placed pdu) (ltb 4 (length pdu)) (λ f. tt) (λ f. (h, k)))
+      (λ e. choice (Placed pdu) (ltb (length pdu) 12) (λ f. tt) (λ f. choice (Placed pdu) (ltb 12 (length pdu)) (λ g. tt) (λ g. (h, k))))
 
   versioned : (fromServer : Bool) (version : ℕ) → Placed pdu (byVersion fromServer pdu version)
   unfolding byVersion
   versioned fromServer version =
       choice (Placed pdu) (ltb version 1) (λ e. tt)
       (λ e. choice (Placed pdu) (ltb 3 version) (λ f. tt)
-      (λ f. choice (Placed pdu) fromServer (λ g. requested version) (λ g. choice (Placed pdu) (ltb 4 (length pdu)) (λ i. tt) (λ i. tt))))
+      (λ f. let h = ltb-false version 1 e in
+      let k = ltb-false 3 version f in
+      choice (Placed pdu) fromServer (λ g. requested version h k) (λ g. choice (Placed pdu) (ltb 4 (length pdu)) (λ i. tt) (λ i. (h, k)))))
 
   capable : (fromServer : Bool) (cbId : ℕ) → Placed pdu (capabilities fromServer pdu cbId)
   unfolding capabilities
