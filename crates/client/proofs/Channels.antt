@@ -3,7 +3,7 @@
 -- Assumes nothing.
 use mathlib.Core.Path.{_≡_, refl, sym, ap, _∙_}
 use mathlib.Core.Bool.{Bool, false}
-use Prim.Native.Nat.{ℕ}
+use Prim.Native.Nat.{ℕ, _≤_}
 use lib.Dec.{eqb}
 use borrow.Author.Tests.{eqb-false}
 use Rattle.paper.specs.declared.Refusal.{Refusal}
@@ -18,7 +18,7 @@ use Rattle.client.proofs.Acts.{FineAct, act-fits, view-known}
 -- what reading makes sure of an event
 abbrev pub FineEvent : Event → Type 0
 FineEvent (Unreadable why) = Unit {0}
-FineEvent (Capabilities version) = Unit {0}
+FineEvent (Capabilities version) = 1 ≤ version
 FineEvent (Of n a) = FineAct a
 
 -- what the rules say of an event of the channel with number n
@@ -26,7 +26,7 @@ abbrev pub ruled : ℕ → State → Act → Did
 ruled n st a = act (st .table .level) n (roomIn st) (view n st) a
 
 module _ (st : State) (g : Steady st) where
-  ruled-fits : (n : ℕ) (a : Act) → FineAct a → Fits n (roomIn st) (view n st) (ruled n st a .view)
+  pub ruled-fits : (n : ℕ) (a : Act) → FineAct a → Fits n (roomIn st) (view n st) (ruled n st a .view)
   ruled-fits n a z = act-fits (st .table .level) n (roomIn st) (view n st) a (view-known n st g (view n st) refl) z
 
   of-step : (n : ℕ) (a : Act) → stepped st (Of n a) ≡ finished n st (view n st) (ruled n st a)
@@ -41,7 +41,7 @@ module _ (st : State) (g : Steady st) where
   unfolding finished
   step-reply n a = ap (λ (s : Stepped). s .reply) (of-step n a)
 
-  step-state : (n : ℕ) (a : Act) → stepped st (Of n a) .state ≡ save n st (view n st) (ruled n st a .view)
+  pub step-state : (n : ℕ) (a : Act) → stepped st (Of n a) .state ≡ save n st (view n st) (ruled n st a .view)
   unfolding finished
   step-state n a = ap (λ (s : Stepped). s .state) (of-step n a)
 

@@ -181,13 +181,13 @@ module _ (n : ℕ) (st : State) (g : Steady st) where
     abbrev at : ℕ
     at = numberPlace n (st .table)
 
-    there-is : at < PARTS
+    pub there-is : at < PARTS
     there-is = opened n st old kept h .0
 
     held : holds n (recordAt (st .table) at) ≡ true
     held = number-holds n (st .table) (rw (g .rows) there-is)
 
-    kept-long : length kept ≡ PART
+    pub kept-long : length kept ≡ PART
     kept-long = rw (opened n st old kept h .1 .1) at (length-part (st .store) at (inside (st .store) at (there (st .store) at (g .bytes) there-is)))
 
     lonely : (i : ℕ) → (i ≡ at → ⊥) → holds n (recordAt (st .table) i) ≡ false
@@ -214,14 +214,14 @@ module _ (n : ℕ) (st : State) (g : Steady st) where
         view-shut n (wrote st at blank (zeros PART)) (numberPlace n t) refl (omega (arith, none-number n t none, freed .rows))
 
   -- the free record that an opening takes
-  record RoomFor (r : Record) (b : List ℕ) : Type 0 where
-    inside-it : freePlace (st .table) < PARTS
-    bytes : b ≡ part (st .store) (freePlace (st .table))
-    long : length b ≡ PART
-    holder : holds n r ≡ true
-    fine : Fine r
+  pub record RoomFor (r : Record) (b : List ℕ) : Type 0 where
+    pub inside-it : freePlace (st .table) < PARTS
+    pub bytes : b ≡ part (st .store) (freePlace (st .table))
+    pub long : length b ≡ PART
+    pub holder : holds n r ≡ true
+    pub fine : Fine r
 
-  room-for : (r : Record) (b : List ℕ) → Fits n (roomIn st) Shut (Open r b) → RoomFor r b
+  pub room-for : (r : Record) (b : List ℕ) → Fits n (roomIn st) Shut (Open r b) → RoomFor r b
   room-for r b f = go (roomIn st) refl f
     where
       go : (room : Room) → roomIn st ≡ room → Fits n room Shut (Open r b) → RoomFor r b

@@ -5,4 +5,7 @@ pub mod Calls
 pub mod Frame
 pub mod Acts
 pub mod Channels
+pub mod Calm
 pub mod Refusals
+pub mod Leaves
+pub mod Touches

@@ -110,6 +110,15 @@ pub length-zeros : (n : ℕ) → length (zeros n) ≡ n
 unfolding zeros
 length-zeros n = length-replicate n 0
 
+-- a part of zeros
+pub mid-zeros : (a n m : ℕ) → a + n ≤ m → take n (drop a (zeros m)) ≡ zeros n
+unfolding zeros
+mid-zeros zero zero m h = refl
+mid-zeros zero (suc n) zero h = absurd (omega arith)
+mid-zeros zero (suc n) (suc m) h = rw (mid-zeros zero n m (omega arith))
+mid-zeros (suc a) n zero h = absurd (omega arith)
+mid-zeros (suc a) n (suc m) h = mid-zeros a n m (omega arith)
+
 -- a fill that has come to the end
 pub filled : (l : List ℕ) (i : ℕ) → i ≡ length l → replicate i 0 ++ drop i l ≡ zeros (length l)
 unfolding zeros

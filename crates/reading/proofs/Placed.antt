@@ -1,5 +1,5 @@
 -- Every place that reading answers lies within the PDU: data goes to its end, a name to the zero byte that ends it.
--- A class is two bits, and a version 1 to 3.
+-- A class is two bits, a version 1 to 3, and a refusal one of 2 to 5.
 -- Assumes nothing.
 use mathlib.Core.Path.{_≡_}
 use mathlib.Core.Bool.{Bool, not}
@@ -10,6 +10,8 @@ use borrow.Author.Tests.{ltb-false, leb-false}
 use lib.Dec.{eqb, ltb, leb}
 use lib.ListN.{length, drop, getD}
 use Rattle.paper.specs.Sizes.{PDU-MAX}
+use Rattle.paper.specs.declared.Refusal.{Refusal}
+use Rattle.paper.specs.declared.Refusal.the-variants.{WrongSize, CutShort, TooLong, NoCommand, BadField, BadList, WrongTime, NotOpen, AlreadyOpen, StillJoining, OverLimit, PastLength, IsSpoiled, NoStart}
 use Rattle.paper.specs.Commands.{CREATE, DATA-FIRST, DATA, CAPABILITIES}
 use Rattle.lists.specs.Places.{place}
 use Rattle.lists.specs.Bytes.{isZero}
@@ -19,6 +21,23 @@ use Rattle.reading.specs.Reading.{readPdu, byCommand, numbered, badLengt
 use Rattle.reading.specs.declared.Pdu.{Pdu}
 use Rattle.reading.specs.declared.Pdu.the-variants.{CreateRequest, CreateResponse, DataFirst, Data, Close, CapsRequest, CapsResponse, Refused}
 
+-- the refusals that reading gives
+abbrev pub ReadingRefusal : Refusal → Type 0
+ReadingRefusal WrongSize = ⊥
+ReadingRefusal CutShort = Unit {0}
+ReadingRefusal TooLong = Unit {0}
+ReadingRefusal NoCommand = Unit {0}
+ReadingRefusal BadField = Unit {0}
+ReadingRefusal BadList = ⊥
+ReadingRefusal WrongTime = ⊥
+ReadingRefusal NotOpen = ⊥
+ReadingRefusal AlreadyOpen = ⊥
+ReadingRefusal StillJoining = ⊥
+ReadingRefusal OverLimit = ⊥
+ReadingRefusal PastLength = ⊥
+ReadingRefusal IsSpoiled = ⊥
+ReadingRefusal NoStart = ⊥
+
 abbrev pub Placed : List ℕ → Pdu → Type 0
 Placed pdu (CreateRequest number class name) = (name .at + name .len + 1 ≡ length pdu) × (class ≤ 3)
 Placed pdu (CreateResponse number status) = Unit {0}
@@ -27,7 +46,7 @@ Placed pdu (Data number block) = block .at + block .len ≡ length pdu
 Placed pdu (Close number) = Unit {0}
 Placed pdu (CapsRequest version charges) = (1 ≤ version) × (version ≤ 3)
 Placed pdu (CapsResponse version) = (1 ≤ version) × (version ≤ 3)
-Placed pdu (Refused why) = Unit {0}
+Placed pdu (Refused why) = ReadingRefusal why
 
 module _ (pdu : List ℕ) where
   named : (number class at len : ℕ) → at ≤ length pdu → class ≤ 3 → Placed pdu (namedFor (length pdu - at) number class at len)

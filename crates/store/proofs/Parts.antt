@@ -15,7 +15,7 @@ use lib.Seq.{take-append-le, drop-append-le, take-at, drop-at, drop-drop}
 use Rattle.paper.specs.Sizes.{PART, PARTS, STORE}
 use Rattle.lists.specs.Bytes.{laid, zeros}
 use Rattle.lists.proofs.Cases.{both, lt-or-le}
-use Rattle.lists.proofs.Laid.{laid-eq, length-laid, back, from-to}
+use Rattle.lists.proofs.Laid.{laid-eq, length-laid, mid-zeros, back, from-to}
 use Rattle.store.specs.Parts.{part, withPart, hasPart, blockPut, partCleared}
 
 -- part j ends before part k begins
@@ -86,6 +86,11 @@ unfolding part
 with-own store k h =
     let l = length-part store k h in
     with-eq store k (part store k) l h ∙ rw (← drop-drop PART (PART * k) store, take-append-drop PART, take-append-drop)
+
+-- every part of a store of zeros
+pub zeros-part : (k : ℕ) → k < PARTS → part (zeros STORE) k ≡ zeros PART
+unfolding part STORE
+zeros-part k l = mid-zeros (PART * k) PART STORE (omega (arith, apart l))
 
 -- ---- the two writes
 
