@@ -27,6 +27,11 @@ pub holds-own : (n : ℕ) (r : Record) → r .taken ≡ true → r .number ≡ n
 unfolding holds
 holds-own n r t e = rw (t, eq-eqb (r .number) n e)
 
+-- an open record holds the number that it has
+pub holds-open : (n : ℕ) (r : Record) → r .taken ≡ true → holds n r ≡ eqb (r .number) n
+unfolding holds
+holds-open n r t = rw t
+
 -- a record that is not open holds none
 pub holds-none : (n : ℕ) (r : Record) → r .taken ≡ false → holds n r ≡ false
 unfolding holds

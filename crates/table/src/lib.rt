@@ -76,18 +76,18 @@ fn holds(record: Record, number: u32) -> bool
 pub fn find_number(table: Table, number: u32) -> usize
     ensures { λ r. ⌜ r ≡ numberPlace number table ⌝ }
 {
-    let mut i = 0;
-    let k = loop {
-        if i == PARTS {
-            break i;
+    let mut k = 0;
+    let place = loop {
+        if k == PARTS {
+            break k;
         }
-        let record = table.records[i];
+        let record = table.records[k];
         if holds(record, number) {
-            break i;
+            break k;
         }
-        i += 1;
+        k += 1;
     };
-    k
+    place
 }
 
 // The place of the lowest-numbered free record, or sixteen where none is free.

@@ -1,4 +1,4 @@
--- `table::find_number` meets its contract: no record before i holds the number.
+-- `table::find_number` meets its contract: no record before k holds the number.
 use mathlib.Core.Path.{_≡_, sym, _∙_}
 use Prim.Native.Nat.{_+_, _-_, _≤_}
 use lib.ListN.{length, drop}
@@ -14,10 +14,10 @@ use Rattle.table.proofs.find_number.Statement.{statement}
 use Rattle.table.proofs.find_number.Tie as tie
 
 abbrev Inv-loop : tie.InvT-loop
-Inv-loop number table i₀ i = (i ≤ PARTS) × (length (table .records) ≡ PARTS) × (place (holds number) (drop i (table .records)) + i ≡ place (holds number) (table .records))
+Inv-loop number table k₀ k = (k ≤ PARTS) × (length (table .records) ≡ PARTS) × (place (holds number) (drop k (table .records)) + k ≡ place (holds number) (table .records))
 
 abbrev μ-loop : tie.MeasureT-loop
-μ-loop number table i₀ i = PARTS - i
+μ-loop number table k₀ k = PARTS - k
 
 loop-holds : tie.Need-loop-holds Inv-loop μ-loop
 unfolding PARTS numberPlace
@@ -34,9 +34,9 @@ element-copy-out-record c = search needs
 holds-requires : tie.Need-holds-requires Inv-loop μ-loop
 holds-requires c κs = search needs
 
-add-i : tie.Need-add-i Inv-loop μ-loop
+add-k : tie.Need-add-k Inv-loop μ-loop
 unfolding PARTS
-add-i c = search needs
+add-k c = search needs
 
 loop-less : tie.Need-loop-less Inv-loop μ-loop
 unfolding PARTS
@@ -46,19 +46,19 @@ loop-again : tie.Need-loop-again Inv-loop μ-loop
 unfolding PARTS
 loop-again c =
     let l = c .before .before .before .before .loop in
-    (omega arith, l .inv .1, search-miss _ _ (l .i) blank (omega arith) (sym (c .before .holds .ensures) ∙ c .if2 .left) (l .inv .2))
+    (omega arith, l .inv .1, search-miss _ _ (l .k) blank (omega arith) (sym (c .before .holds .ensures) ∙ c .if2 .left) (l .inv .2))
 
 returns : tie.Need-returns Inv-loop μ-loop
 unfolding PARTS numberPlace
 returns c =
     let l = c .before .loop in
-    search-end _ _ (l .i) (omega arith) (l .inv .2)
+    search-end _ _ (l .k) (omega arith) (l .inv .2)
 
 returns-2 : tie.Need-returns-2 Inv-loop μ-loop
 unfolding PARTS numberPlace
 returns-2 c =
     let l = c .before .before .before .before .loop in
-    search-hit _ _ (l .i) blank (omega arith) (sym (c .before .holds .ensures) ∙ c .if2 .taken) (l .inv .2)
+    search-hit _ _ (l .k) blank (omega arith) (sym (c .before .holds .ensures) ∙ c .if2 .taken) (l .inv .2)
 
 pub find-number-spec : {M : Type 1} → statement M
 find-number-spec =
@@ -70,7 +70,7 @@ find-number-spec =
     mul-record
     element-copy-out-record
     holds-requires
-    add-i
+    add-k
     loop-less
     loop-again
     returns
