@@ -9,3 +9,4 @@ pub mod Calm
 pub mod Refusals
 pub mod Leaves
 pub mod Touches
+pub mod One
