@@ -2,11 +2,4 @@ pub mod Steps
 pub mod Landing
 pub mod Creating
 pub mod Calls
-pub mod Frame
-pub mod Acts
-pub mod Channels
-pub mod Calm
-pub mod Refusals
-pub mod Leaves
-pub mod Touches
 pub mod One

@@ -35,10 +35,10 @@ use Rattle.client.specs.Events.{Event, Unreadable, Capabilities, Of, eventOf}
 use Rattle.client.specs.Client.{stepped, badCall, Whole, wholeOf, received, locallyClosed}
 use Rattle.client.proofs.Steps.{room-none, room-spare}
 use Rattle.client.proofs.Calls.{passes}
-use Rattle.client.proofs.Frame.{Steady}
-use Rattle.client.proofs.Acts.{FineAct}
-use Rattle.client.proofs.Channels.{FineEvent, ruled, step-answer, step-reply, step-state, step-own, step-other, step-steady, step-caps}
-use Rattle.client.proofs.Calm.{Sane, Calm, sane-steady, calm-step, fine-pdu}
+use Rattle.steps.proofs.Frame.{Steady}
+use Rattle.steps.proofs.Acts.{FineAct}
+use Rattle.steps.proofs.Channels.{FineEvent, ruled, step-answer, step-reply, step-state, step-own, step-other, step-steady, step-caps}
+use Rattle.steps.proofs.Calm.{Sane, Calm, sane-steady, calm-step, fine-pdu}
 use Rattle.channel.specs.declared.Concern.the-variants.{NoChannel}
 use Rattle.demands.proofs.Traces.{Framed}
 use Rattle.demands.specs.Runs.{Asked, Pdu, Close, Call, gives, after, firstOf, handedUp, Told, told, eventIn, isOf, isEventOf, fullTable, asksRoom, eventMeetsFull, meetsFull}
@@ -253,9 +253,10 @@ own-next l n st c g (Unreadable why) q z h = absurd (true-not-false (sym h))
 own-next l n st c g (Capabilities version) q z h = absurd (true-not-false (sym h))
 own-next l n st c g (Of m a) q z h =
     let m-n : m ≡ n = eqb-true m n h in
-    rw (← m-n)
-    (ap (view m) (call-state st c (g .calm .sane) ∙ ap (λ (x : Event). stepped st x .state) q) ∙ step-own st (steady l st g) m a z ∙ ap (λ (d : Did). d .view) (ruled-flag l st g m a),
-    own-told l st c g m a z q ∙ ap toldBy (ruled-flag l st g m a))
+    rw (← m-n) (
+      ap (view m) (call-state st c (g .calm .sane) ∙ ap (λ (x : Event). stepped st x .state) q) ∙ step-own st (steady l st g) m a z ∙ ap (λ (d : Did). d .view) (ruled-flag l st g m a),
+      own-told l st c g m a z q ∙ ap toldBy (ruled-flag l st g m a),
+    )
 
 pub framed : (l n : ℕ) → Framed readCall after told meetsFull (isEventOf n) (view n) (chanNext l) (chanOut l) (Running l)
 unfolding isEventOf meetsFull

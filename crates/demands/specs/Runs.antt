@@ -61,7 +61,7 @@ told st c =
     record {
       answer = gives st (c .asked) (c .reply) .result .answer;
       reply = take (gives st (c .asked) (c .reply) .result .sent) (gives st (c .asked) (c .reply) .reply);
-      message = handedUp (after st c) (gives st (c .asked) (c .reply) .result .answer)
+      message = handedUp (after st c) (gives st (c .asked) (c .reply) .result .answer);
     }
 
 -- ---- events

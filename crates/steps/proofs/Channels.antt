@@ -8,12 +8,12 @@ use lib.Dec.{eqb}
 use borrow.Author.Tests.{eqb-false}
 use Rattle.paper.specs.declared.Refusal.{Refusal}
 use Rattle.channel.specs.Channel.{Act, Did, act}
 use Rattle.client.specs.State.{State, view, roomIn, save}
 use Rattle.client.specs.Events.{Event, Unreadable, Capabilities, Of}
 use Rattle.client.specs.Client.{Stepped, finished, stepped}
 use Rattle.client.proofs.Steps.{in-time, too-late}
-use Rattle.client.proofs.Frame.{Steady, FreePartsAreZero, Fits, save-own, save-other, save-steady, save-clear}
-use Rattle.client.proofs.Acts.{FineAct, act-fits, view-known}
+use Rattle.steps.proofs.Frame.{Steady, FreePartsAreZero, Fits, save-own, save-other, save-steady, save-clear}
+use Rattle.steps.proofs.Acts.{FineAct, act-fits, view-known}
 
 -- what reading makes sure of an event
 abbrev pub FineEvent : Event → Type 0

@@ -32,12 +32,12 @@ use Rattle.reading.specs.declared.Pdu.{Pdu}
 use Rattle.reading.specs.declared.Pdu.the-variants.{CreateRequest, CreateResponse, DataFirst, Data, Close, CapsRequest, CapsResponse, Refused as NotRead}
 use Rattle.reading.proofs.Placed.{ReadingRefusal, Placed, placed}
 use Rattle.store.specs.Parts.{part}
 use Rattle.client.specs.State.{State, stateOf, view, roomIn, wrote, save}
 use Rattle.client.specs.Events.{Event, Unreadable, Capabilities, Of, eventOf}
 use Rattle.client.specs.Client.{Stepped, refused, finished, readied, stepped, badCall, Whole, wholeOf, guarded, received, locallyClosed}
 use Rattle.client.proofs.Calls.{Proper, proper, refuses, passes}
 use Rattle.client.proofs.Steps.{own-part, save-own, too-early, in-time, too-late, made-ready}
-use Rattle.client.proofs.Frame.{Steady, opened}
+use Rattle.steps.proofs.Frame.{Steady, opened}
 use Rattle.channel.specs.Channel.{Act, BadCreate, Create, Bring, Closing, LocalClose, View, Shut, Open, Room, NoRoom, Spare, restaged, opening, landed, act}
 
 -- "three listed refusals mark the one channel concerned as spoiled"

@@ -23,14 +23,14 @@ use Rattle.table.specs.Table.{numberPlace, freePlace, recordAt}
 use Rattle.table.proofs.Records.{at-same}
 use Rattle.store.specs.Parts.{part, withPart}
 use Rattle.store.proofs.Parts.{there, inside, part-same, part-other}
 use Rattle.client.specs.State.{State, view, roomIn, wrote, save}
 use Rattle.client.specs.Events.{Of, createAct, eventOf, closeAct}
 use Rattle.client.specs.Client.{stepped}
 use Rattle.client.proofs.Steps.{own-part}
-use Rattle.client.proofs.Frame.{Steady, Fits, room-for, kept-long, there-is}
-use Rattle.client.proofs.Acts.{FineAct}
-use Rattle.client.proofs.Channels.{ruled, ruled-fits, step-state, step-own, step-other}
-use Rattle.client.proofs.Calm.{fine-create}
+use Rattle.steps.proofs.Frame.{Steady, Fits, room-for, kept-long, there-is}
+use Rattle.steps.proofs.Acts.{FineAct}
+use Rattle.steps.proofs.Channels.{ruled, ruled-fits, step-state, step-own, step-other}
+use Rattle.steps.proofs.Calm.{fine-create}
 
 -- a save touches no part but that of the channel with number n
 save-parts : (n : ℕ) (st : State) (g : Steady st) (v w : View) → view n st ≡ v → Fits n (roomIn st) v w → (j : ℕ) → j ≢ numberPlace n (st .table) → part (save n st v w .store) j ≡ part (st .store) j

@@ -24,14 +24,14 @@ use Rattle.table.specs.declared.Table.{Table}
 use Rattle.table.specs.Table.{emptyTable, recordAt}
 use Rattle.table.specs.Sound.{soundTable}
 use Rattle.table.proofs.Soundness.{sound-empty, sound-ready}
 use Rattle.client.specs.State.{State, stateOf}
 use Rattle.client.specs.Events.{Event, Unreadable, Capabilities, Of, createAct, eventOf}
 use Rattle.client.specs.Client.{readied, stepped, badCall, wholeOf, guarded, received, locallyClosed}
 use Rattle.client.proofs.Steps.{too-early, made-ready}
 use Rattle.client.proofs.Calls.{proper, refuses, passes}
-use Rattle.client.proofs.Frame.{Steady, FreePartsAreZero}
-use Rattle.client.proofs.Acts.{FineAct}
-use Rattle.client.proofs.Channels.{FineEvent, step-steady, step-clear}
+use Rattle.steps.proofs.Frame.{Steady, FreePartsAreZero}
+use Rattle.steps.proofs.Acts.{FineAct}
+use Rattle.steps.proofs.Channels.{FineEvent, step-steady, step-clear}
 
 -- sixteen records, a store of its size, a sound table
 pub record Sane (st : State) : Type 0 where

@@ -25,8 +25,8 @@ use Rattle.table.specs.Sound.{goodStage}
 use Rattle.table.proofs.Twice.{holds-own}
 use Rattle.table.proofs.Records.{number-holds}
 use Rattle.table.proofs.Soundness.{sound-says, joining-bounds, joining-good}
 use Rattle.client.specs.State.{State, view}
-use Rattle.client.proofs.Frame.{Steady, Fine, Fits, opened}
+use Rattle.steps.proofs.Frame.{Steady, Fine, Fits, opened}
 
 -- ---- what data comes to
 

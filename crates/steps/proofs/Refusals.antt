@@ -35,13 +35,13 @@ use Rattle.table.specs.declared.Table.{Table}
 use Rattle.table.specs.Table.{numberPlace, recordAt}
 use Rattle.table.specs.Sound.{goodStage, soundTable}
 use Rattle.table.proofs.Soundness.{sound-says, joining-bounds}
 use Rattle.client.specs.State.{State, stateOf, viewAt, view, roomIn}
 use Rattle.store.specs.Parts.{part}
 use Rattle.client.specs.Events.{Unreadable, Capabilities, Of, createAct, eventOf}
 use Rattle.client.specs.Client.{Stepped, refused, finished, acted, readied, stepped, badCall, Whole, wholeOf, guarded, received, locallyClosed}
 use Rattle.client.proofs.Steps.{too-late, made-ready}
 use Rattle.client.proofs.Calls.{proper, refuses, passes as passes-by}
-use Rattle.client.specs.Rows.{Verdict, fine, refusedWith, verdictOf, Row, row, firstHeld, isOpen, stageOf, isSpoiled, isJoining, passes, firstRows, dataRows, rowsOf, receiveRows, closeRows}
+use Rattle.steps.specs.Rows.{Verdict, fine, refusedWith, verdictOf, Row, row, firstHeld, isOpen, stageOf, isSpoiled, isJoining, passes, firstRows, dataRows, rowsOf, receiveRows, closeRows}
 
 -- a step's verdict
 abbrev verdict : Stepped → Verdict
