@@ -1,2 +1,4 @@
 pub mod Traces
 pub mod Machine
+pub mod Joined
+pub mod Orders

@@ -3,7 +3,7 @@
 use mathlib.Core.Path.{_≡_, refl, sym, _∙_}
 use mathlib.Core.Bool.{Bool, true, false}
 use mathlib.Core.List.{List, [], _∷_, map}
-use Rattle.demands.specs.Trace.{consIf, keep, final, seen}
+use Rattle.demands.specs.Trace.{consIf, keep, final, seen, Never}
 
 -- an event with its flag: whether it met a full table
 pub record Input (E : Type 0) : Type 0 where
@@ -65,10 +65,6 @@ module _ {S R E O W : Type 0} {read : R → E} {next : S → R → S} {out : S �
   same-final s s′ xs xs′ i i′ v h = trace-final s xs i ∙ rw (v, h) (sym (trace-final s′ xs′ i′))
 
 -- ---- runs in which no input is flagged
-abbrev pub Never : {S R : Type 0} → (S → R → S) → (S → R → Bool) → S → List R → Type 0
-Never next full s [] = Unit {0}
-Never next full s (x ∷ xs) = (full s x ≡ false) × Never next full (next s x) xs
-
 abbrev pub plain : {E : Type 0} → E → Input E
 plain e = record { event = e; full = false }
 

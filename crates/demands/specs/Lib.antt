@@ -1,3 +1,4 @@
 pub mod Trace
 pub mod Runs
 pub mod Joining
+pub mod Orders

@@ -1,4 +1,5 @@
 -- A run of any machine: its last state, and what is seen of those of its inputs that pass a test.
+use mathlib.Core.Path.{_≡_}
 use mathlib.Core.Bool.{Bool, true, false}
 use mathlib.Core.List.{List, [], _∷_}
 
@@ -20,3 +21,8 @@ final next s (x ∷ xs) = final next (next s x) xs
 abbrev pub seen : {S R A : Type 0} → (S → R → S) → (R → Bool) → (S → R → A) → S → List R → List A
 seen next on f s [] = []
 seen next on f s (x ∷ xs) = consIf (on x) (f s x) (seen next on f (next s x) xs)
+
+-- no input of the run passes a test at the state that it meets
+abbrev pub Never : {S R : Type 0} → (S → R → S) → (S → R → Bool) → S → List R → Type 0
+Never next test s [] = Unit {0}
+Never next test s (x ∷ xs) = (test s x ≡ false) × Never next test (next s x) xs
