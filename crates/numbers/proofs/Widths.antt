@@ -36,6 +36,11 @@ pub narrowest-le : (v : ℕ) → narrowest v ≤ 4
 unfolding narrowest
 narrowest-le v = width-le (codeFor v)
 
+-- a number has a byte
+pub narrowest-pos : (v : ℕ) → 1 ≤ narrowest v
+unfolding narrowest widthOf codeFor
+narrowest-pos v = choice (λ (c : ℕ). 1 ≤ widthOf c) (ltb v 256) (λ _. lit≤ tt) (λ _. choice (λ (c : ℕ). 1 ≤ widthOf c) (ltb v 65536) (λ _. lit≤ tt) (λ _. lit≤ tt))
+
 pub length-narrow : (v : ℕ) → length (narrowBytes v) ≡ narrowest v
 unfolding narrowBytes
 length-narrow v = length-bytesOf (narrowest v) v

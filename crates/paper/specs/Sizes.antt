@@ -9,6 +9,10 @@ PDU-MAX = 1600
 unfoldable pub MESSAGE-MAX : ℕ
 MESSAGE-MAX = 4096
 
+-- the most bytes of a message that is cut into one Data
+unfoldable pub WHOLE-MAX : ℕ
+WHOLE-MAX = 1590
+
 -- the records of the table, each with its own part of the store, which holds a message
 unfoldable pub PARTS : ℕ
 PARTS = 16

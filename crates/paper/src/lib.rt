@@ -11,6 +11,9 @@ pub const PDU_MAX: usize = 1600;
 // The most bytes that a message has.
 pub const MESSAGE_MAX: usize = 4096;
 
+// The most bytes of a message that is cut into one Data. A longer one begins with a Data First.
+pub const WHOLE_MAX: usize = 1590;
+
 // The records of the table, each with its own part of the store, which holds a message.
 pub const PARTS: usize = 16;
 

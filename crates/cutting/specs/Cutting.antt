@@ -1,0 +1,102 @@
+-- Cutting: the paper's section "Cutting", sentence by sentence. `total` is the message's length, `at` an offset.
+use Prim.Native.Nat.{ℕ, zero, suc, _+_, _-_, _*_, _/_, _%_, min}
+use mathlib.Core.Bool.{Bool, false, cond, not, _&&_, _||_}
+use mathlib.Core.List.{List}
+use lib.Dec.{ltb, eqb}
+use lib.ListN.{length, take, drop}
+use Rattle.paper.specs.Sizes.{PDU-MAX, MESSAGE-MAX, WHOLE-MAX}
+use Rattle.paper.specs.Refusals.{refusalNumber}
+use Rattle.paper.specs.declared.Refusal.{Refusal}
+use Rattle.paper.specs.declared.Refusal.the-variants.{WrongSize, OverLimit, NoStart}
+use Rattle.lists.specs.Bytes.{laid}
+use Rattle.numbers.specs.Numbers.{narrowest}
+use Rattle.laying.specs.Laying.{dataBytes, dataFirstBytes}
+use Rattle.cutting.specs.declared.Piece.{Piece}
+use Rattle.cutting.specs.declared.Piece.the-variants.{Pdu, Refused}
+
+-- "a message of at most 1,590 bytes is one Data PDU, at offset 0 only. A longer one has at offset 0 a Data First [..]; then [..] a Data"
+unfoldable pub isFirst : ℕ → ℕ → Bool
+isFirst total at = ltb WHOLE-MAX total && eqb at 0
+
+-- "its header": the first byte and the number, and in a Data First the Length
+unfoldable pub headerLen : ℕ → ℕ → ℕ → ℕ
+headerLen number total at = cond (isFirst total at) (1 + narrowest number + narrowest total) (1 + narrowest number)
+
+-- "all of it or 1,600 less its header, the smaller"; "the rest or 1,600 less its header"
+unfoldable pub blockLen : ℕ → ℕ → ℕ → ℕ
+blockLen number total at = min (total - at) (PDU-MAX - headerLen number total at)
+
+-- where the block ends
+unfoldable pub blockEnd : ℕ → ℕ → ℕ → ℕ
+blockEnd number total at = at + blockLen number total at
+
+-- "starting just where the block before ended, [..] until the length is reached": whether the offset is met in as many starts, from `at` on
+unfoldable pub meets : ℕ → ℕ → ℕ → ℕ → ℕ → Bool
+meets zero number total offset at = false
+meets (suc more) number total offset at =
+    eqb at offset || (ltb (blockEnd number total at) total && meets more number total offset (blockEnd number total at))
+
+-- the offset is a start of a block: it is met from 0 on. Starts differ, so there are no more than bytes, or one
+unfoldable pub isStart : ℕ → ℕ → ℕ → Bool
+isStart number total offset = meets (suc total) number total offset 0
+
+-- the block that starts at an offset
+unfoldable pub block : ℕ → List ℕ → ℕ → List ℕ
+block number message at = take (blockLen number (length message) at) (drop at message)
+
+-- and its PDU
+unfoldable pub cutPdu : ℕ → List ℕ → ℕ → List ℕ
+cutPdu number message at =
+    cond (isFirst (length message) at)
+    (dataFirstBytes number (length message) (block number message at))
+    (dataBytes number (block number message at))
+
+-- the refusal where the test holds, and else the rest
+abbrev pub refuse : Refusal → Bool → Piece → Piece
+refuse why test rest = cond test (Refused why) rest
+
+-- "Cutting: 1, 11, 14." 1: the buffer is not of its size; 11: "a message over 4,096"; 14: "the offset is not a start of a block".
+-- "The answer is the PDU's length and the next offset."
+unfoldable pub cutAt : ℕ → List ℕ → ℕ → List ℕ → Piece
+cutAt number message offset out =
+    refuse WrongSize (ltb (length out) PDU-MAX)
+    (refuse OverLimit (ltb MESSAGE-MAX (length message))
+    (refuse NoStart (not (isStart number (length message) offset))
+    (Pdu (length (cutPdu number message offset)) (blockEnd number (length message) offset))))
+
+-- "Bytes of a reply or PDU buffer behind the written ones stay." "Store, reply and PDU buffer are unchanged by every refusal."
+unfoldable pub bufferAfter : Piece → List ℕ → List ℕ → List ℕ
+bufferAfter (Pdu len next) pdu out = laid out 0 pdu
+bufferAfter (Refused why) pdu out = out
+
+unfoldable pub cutBuffer : ℕ → List ℕ → ℕ → List ℕ → List ℕ
+cutBuffer number message offset out = bufferAfter (cutAt number message offset out) (cutPdu number message offset) out
+
+-- ---- the answer in the paper's terms
+
+-- the PDU's length and the next offset, or a refusal
+pub data Outcome : Type 0 where
+  pdu : ℕ → ℕ → Outcome
+  refusal : ℕ → Outcome
+
+unfoldable pub outcome : Piece → Outcome
+outcome (Pdu len next) = pdu len next
+outcome (Refused why) = refusal (refusalNumber why)
+
+-- ---- the answer as one number: "The panel's host program is in C and calls the cutter with numbers and byte slices."
+
+-- what one byte of a PDU's length counts in it: more than any next offset
+unfoldable pub LENGTH-UNIT : ℕ
+LENGTH-UNIT = 65536
+
+unfoldable pub packed : Piece → ℕ
+packed (Pdu len next) = len * LENGTH-UNIT + next
+packed (Refused why) = refusalNumber why
+
+-- cutting's three refusals by their numbers
+unfoldable pub refusalOf : ℕ → Refusal
+refusalOf n = cond (eqb n (refusalNumber WrongSize)) WrongSize (cond (eqb n (refusalNumber OverLimit)) OverLimit NoStart)
+
+-- how the host reads it
+unfoldable pub unpacked : ℕ → Piece
+unpacked n = cond (ltb n LENGTH-UNIT) (Refused (refusalOf n)) (Pdu (n / LENGTH-UNIT) (n % LENGTH-UNIT))
