@@ -1,18 +1,19 @@
 -- The laws of the answer: when it is given, how large its numbers are, and that its packed form says it all.
 -- Assumes nothing.
-use mathlib.Core.Path.{_≡_, refl}
-use mathlib.Core.Bool.{true, false, not}
+use mathlib.Core.Path.{_≡_, refl, _∙_}
+use mathlib.Core.Bool.{Bool, cond, true, false, not}
 use mathlib.Core.List.{List}
 use Prim.Native.Nat.{ℕ, _+_, _*_, _/_, _%_, _≤_, _<_}
 use native.Mathlib.Omega.{arith}
 use borrow.Author.Tests.{lt-ltb, le-ltb, ltb-false, not-false}
 use lib.Dec.{ltb, lit<}
-use lib.ListN.{length}
+use lib.ListN.{length, take}
 use Rattle.paper.specs.Sizes.{PDU-MAX, MESSAGE-MAX}
 use Rattle.paper.specs.Refusals.{refusalNumber}
 use Rattle.paper.specs.declared.Refusal.the-variants.{WrongSize, OverLimit, NoStart}
 use Rattle.lists.specs.Bytes.{laid}
 use Rattle.lists.proofs.Cases.{choice}
+use Rattle.lists.proofs.Laid.{front}
 use Rattle.cutting.specs.Cutting.{blockEnd, isStart, cutPdu, cutAt, bufferAfter, cutBuffer, LENGTH-UNIT, packed, refusalOf, unpacked}
 use Rattle.cutting.specs.declared.Piece.{Piece}
 use Rattle.cutting.specs.declared.Piece.the-variants.{Pdu, Refused}
@@ -54,6 +55,43 @@ module _ (number : ℕ) (message : List ℕ) (offset : ℕ) (out : List ℕ) whe
       let e = le-ltb (length out) PDU-MAX h in
       let f = le-ltb MESSAGE-MAX (length message) k in
       (rw (e, f, s), rw (e, f, s))
+
+  -- a function that answers so, and lays so
+  pub lays :
+      PDU-MAX ≤ length out
+      → length message ≤ MESSAGE-MAX
+      → isStart number (length message) offset ≡ true
+      → {piece : Piece} {after : List ℕ}
+      → piece ≡ Pdu (length (cutPdu number message offset)) (blockEnd number (length message) offset)
+      → after ≡ laid out 0 (cutPdu number message offset)
+      → Answers piece after
+  lays h k s e f = let answer = at-start h k s in (e ∙ answer .0, f ∙ answer .1)
+
+  -- what an answer other than a refusal says: which block was cut, and that its PDU stands at the buffer's front
+  pub record Given (len next : ℕ) : Type 0 where
+    pub roomy : PDU-MAX ≤ length out
+    pub short-enough : length message ≤ MESSAGE-MAX
+    pub start : isStart number (length message) offset ≡ true
+    pub whole-pdu : len ≡ length (cutPdu number message offset)
+    pub ends : next ≡ blockEnd number (length message) offset
+    pub stands : take len (cutBuffer number message offset out) ≡ cutPdu number message offset
+
+  pub given : (len next : ℕ) → cutAt number message offset out ≡ Pdu len next → Given len next
+  unfolding cutAt
+  given len next h = go (ltb (length out) PDU-MAX) (ltb MESSAGE-MAX (length message)) (isStart number (length message) offset) refl refl refl h
+    where
+      go : (s t u : Bool) → ltb (length out) PDU-MAX ≡ s → ltb MESSAGE-MAX (length message) ≡ t → isStart number (length message) offset ≡ u → cond s (Refused WrongSize) (cond t (Refused OverLimit) (cond (not u) (Refused NoStart) (Pdu (length (cutPdu number message offset)) (blockEnd number (length message) offset)))) ≡ Pdu len next → Given len next
+      go true t u p q w h = let z : _≡_ {A = ℕ} 0 1 = cc in absurd (omega arith)
+      go false true u p q w h = let z : _≡_ {A = ℕ} 0 1 = cc in absurd (omega arith)
+      go false false false p q w h = let z : _≡_ {A = ℕ} 0 1 = cc in absurd (omega arith)
+      go false false true p q w h =
+          let roomy = ltb-false (length out) PDU-MAX p in
+          let short = ltb-false MESSAGE-MAX (length message) q in
+          let l : len ≡ length (cutPdu number message offset) = cc in
+          let n : next ≡ blockEnd number (length message) offset = cc in
+          let there : take len (cutBuffer number message offset out) ≡ cutPdu number message offset =
+          rw (l, ← (at-start roomy short w .1)) (front out (cutPdu number message offset) (omega (arith, cut-fits number message offset))) in
+          record { roomy = roomy; short-enough = short; start = w; whole-pdu = l; ends = n; stands = there }
 
 -- ---- the packed answer
 

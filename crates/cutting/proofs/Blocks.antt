@@ -1,11 +1,12 @@
 -- The laws of one block: its header, its length, where it ends, and its PDU.
 -- Assumes nothing.
-use mathlib.Core.Path.{_≡_, _∙_, ap}
-use mathlib.Core.Bool.{Bool, true, false, cond}
+use mathlib.Core.Path.{_≡_, refl, _∙_, ap}
+use mathlib.Core.Bool.{Bool, true, false, cond, and-false}
 use mathlib.Core.List.{List, _++_}
 use Prim.Native.Nat.{ℕ, _+_, _-_, _≤_, _<_}
 use native.Mathlib.Omega.{arith}
-use borrow.Author.Tests.{le-ltb}
+use borrow.Author.Tests.{le-ltb, lt-ltb, ne-eqb}
+use lib.Dec.{ltb}
 use lib.ListN.{length, take, drop, length-take, length-drop, take-append-drop}
 use lib.Seq.{drop-drop}
 use Rattle.paper.specs.Sizes.{PDU-MAX, WHOLE-MAX}
@@ -55,6 +56,10 @@ module _ (number total at : ℕ) where
   unfolding blockEnd
   end-after h = omega (arith, block-pos h)
 
+  pub end-is : blockEnd number total at ≡ at + blockLen number total at
+  unfolding blockEnd
+  end-is = refl
+
   pub end-from : at ≤ blockEnd number total at
   unfolding blockEnd
   end-from = omega arith
@@ -72,6 +77,14 @@ whole-end number total h = omega (arith, header-le number total 0)
 pub whole-data : (total at : ℕ) → total ≤ WHOLE-MAX → isFirst total at ≡ false
 unfolding isFirst
 whole-data total at h = rw (le-ltb WHOLE-MAX total h)
+
+pub long-first : (total : ℕ) → WHOLE-MAX < total → isFirst total 0 ≡ true
+unfolding isFirst
+long-first total h = rw (lt-ltb WHOLE-MAX total h)
+
+pub later-data : (total at : ℕ) → 0 < at → isFirst total at ≡ false
+unfolding isFirst
+later-data total at h = let n : at ≡ 0 → ⊥ = λ e. omega arith in rw (ne-eqb at 0 n) (and-false (ltb WHOLE-MAX total))
 
 -- ---- bytes
 

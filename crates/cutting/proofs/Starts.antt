@@ -10,7 +10,7 @@ use lib.Dec.{eqb, ltb}
 use Rattle.paper.specs.Sizes.{WHOLE-MAX}
 use Rattle.lists.proofs.Cases.{true-not-false, lt-or-le}
 use Rattle.cutting.specs.Cutting.{blockEnd, meets, isStart}
-use Rattle.cutting.proofs.Blocks.{end-after, end-from, whole-end}
+use Rattle.cutting.proofs.Blocks.{end-after, end-from, end-within, whole-end}
 
 -- ---- the walk: one look at a time
 
@@ -151,6 +151,14 @@ pub only-zero : (number total offset : ℕ) → total ≤ WHOLE-MAX → isStart 
 only-zero number total offset h =
     each-start number total (λ offset. offset ≡ 0) refl
     (λ at s l e. let w : blockEnd number total at ≡ total = rw e (whole-end number total h) in absurd (omega arith)) offset
+
+-- the next offset is the message's length, or a start again
+pub next-start : (number total at : ℕ) → isStart number total at ≡ true → (blockEnd number total at ≡ total) ⊎ (isStart number total (blockEnd number total at) ≡ true)
+next-start number total at h =
+    ⊎-elim
+    (λ (l : blockEnd number total at < total). inr (start-next number total at h l))
+    (λ (l : total ≤ blockEnd number total at). inl (omega (arith, end-within number total at (start-within number total at h))))
+    (lt-or-le (blockEnd number total at) total)
 
 -- ---- following the blocks, as the code does
 

@@ -30,13 +30,15 @@ blockLen number total at = min (total - at) (PDU-MAX - headerLen number total at
 unfoldable pub blockEnd : ℕ → ℕ → ℕ → ℕ
 blockEnd number total at = at + blockLen number total at
 
--- "starting just where the block before ended, [..] until the length is reached": whether the offset is met in as many starts, from `at` on
+-- "then, starting just where the block before ended, [..] until the length is reached": whether the offset is among so many starts,
+-- of which `at` is the first
 unfoldable pub meets : ℕ → ℕ → ℕ → ℕ → ℕ → Bool
 meets zero number total offset at = false
 meets (suc more) number total offset at =
     eqb at offset || (ltb (blockEnd number total at) total && meets more number total offset (blockEnd number total at))
 
--- the offset is a start of a block: it is met from 0 on. Starts differ, so there are no more than bytes, or one
+-- the offset is a start of a block: it is met from 0 on, which is a start of an empty message too. A block that the message goes
+-- on behind has a byte, so that there are not more starts than this
 unfoldable pub isStart : ℕ → ℕ → ℕ → Bool
 isStart number total offset = meets (suc total) number total offset 0
 
@@ -55,7 +57,7 @@ cutPdu number message at =
 abbrev pub refuse : Refusal → Bool → Piece → Piece
 refuse why test rest = cond test (Refused why) rest
 
--- "Cutting: 1, 11, 14." 1: the buffer is not of its size; 11: "a message over 4,096"; 14: "the offset is not a start of a block".
+-- "Cutting: 1, 11, 14." 1: the buffer is not of its size; 11: "a message over 4,096"; 14: "Any other offset".
 -- "The answer is the PDU's length and the next offset."
 unfoldable pub cutAt : ℕ → List ℕ → ℕ → List ℕ → Piece
 cutAt number message offset out =

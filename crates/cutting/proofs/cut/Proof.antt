@@ -5,7 +5,7 @@ use borrow.Author.Tests.{not-true, not-false}
 use lib.ListN.{length}
 use Rattle.paper.specs.Sizes.{PDU-MAX, MESSAGE-MAX}
 use Rattle.cutting.proofs.Starts.{start-within}
-use Rattle.cutting.proofs.Answers.{short-buffer, long-message, no-start, at-start}
+use Rattle.cutting.proofs.Answers.{short-buffer, long-message, no-start, lays}
 use borrow.Author.Needs.{needs}
 use Rattle.cutting.proofs.cut.Statement.{statement}
 use Rattle.cutting.proofs.cut.Tie as tie
@@ -42,8 +42,7 @@ returns-4 : tie.Need-returns-4
 unfolding PDU-MAX MESSAGE-MAX
 returns-4 c =
     let met = sym (c .before .before .before .before .before .is-start .ensures) ∙ not-false _ (c .before .before .before .before .if3 .left) in
-    let answer = at-start _ _ _ _ (c .before .before .before .before .before .before .before .if1 .left) (c .before .before .before .before .before .before .if2 .left) met in
-    (c .before .before .lay .ensures .0 ∙ answer .0, c .before .before .lay .ensures .1 ∙ answer .1)
+    lays _ _ _ _ (c .before .before .before .before .before .before .before .if1 .left) (c .before .before .before .before .before .before .if2 .left) met (c .before .before .lay .ensures .0) (c .before .before .lay .ensures .1)
 
 pub cut-spec : {M : Type 1} → statement M
 cut-spec =
