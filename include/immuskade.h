@@ -1,7 +1,7 @@
 /*
  * Immuskade for a host in C: the cutter.
  *
- * Link the archive that `rt staticlib cutting` makes, target/staticlib/libcutting.a. It needs no other library, holds no
+ * Link the archive that `rt staticlib cutting` makes, target/staticlib/libcutting.a. It needs no library but C's own, holds no
  * state and may be called from any thread.
  */
 #ifndef IMMUSKADE_H

@@ -89,9 +89,9 @@ module _ (number : ℕ) (message : List ℕ) (offset : ℕ) (out : List ℕ) whe
           let short = ltb-false MESSAGE-MAX (length message) q in
           let l : len ≡ length (cutPdu number message offset) = cc in
           let n : next ≡ blockEnd number (length message) offset = cc in
-          let there : take len (cutBuffer number message offset out) ≡ cutPdu number message offset =
-          rw (l, ← (at-start roomy short w .1)) (front out (cutPdu number message offset) (omega (arith, cut-fits number message offset))) in
-          record { roomy = roomy; short-enough = short; start = w; whole-pdu = l; ends = n; stands = there }
+          let pdu = cutPdu number message offset in
+          let fits = cut-fits number message offset in
+          record { roomy = roomy; short-enough = short; start = w; whole-pdu = l; ends = n; stands = rw (l, ← (at-start roomy short w .1)) (front out pdu (omega arith)) }
 
 -- ---- the packed answer
 

@@ -63,7 +63,7 @@ chained (suc more) number total offset at h =
     go false true e f rest h = onward (ltb-true _ _ f) (rest h)
     go false false e f rest h = absurd (true-not-false (sym h))
 
--- where the looks are enough
+-- and back, where the looks are enough
 met : {number total at offset : ℕ} → Chain number total at offset → (more : ℕ) → at ≤ total → total < at + more → meets more number total offset at ≡ true
 unfolding meets
 met chain zero h k = absurd (omega arith)
@@ -99,7 +99,7 @@ enough more number total offset at h k =
     (λ m. met (chained more number total offset at m) (suc (total - at)) h (omega arith))
     (λ m. met (chained (suc (total - at)) number total offset at m) more h k)
 
--- starts don't depend on the looks
+-- so that starts don't depend on how many are made
 pub more-looks : (more number total offset : ℕ) → meets (suc total + more) number total offset 0 ≡ isStart number total offset
 unfolding isStart
 more-looks more number total offset = both-or-none _ _
@@ -115,14 +115,7 @@ start-zero number total = chain-start number total 0 here
 pub start-next : (number total at : ℕ) → isStart number total at ≡ true → blockEnd number total at < total → isStart number total (blockEnd number total at) ≡ true
 start-next number total at h l = chain-start number total _ (longer (start-chain number total at h) l)
 
--- and there are no others
-pub record Follows (number total offset : ℕ) : Type 0 where
-  pub from : ℕ
-  pub start : isStart number total from ≡ true
-  pub ends : blockEnd number total from ≡ offset
-  pub within : offset < total
-
--- what holds at 0, and at each next start where it holds at a start, holds at all of them
+-- what holds at 0, and goes on from start to start, holds at each
 pub each-start :
     (number total : ℕ) (P : ℕ → Type 0)
     → P 0
@@ -133,6 +126,13 @@ each-start number total P begin next offset h = along (start-chain number total 
     along : {at offset : ℕ} → Chain number total at offset → isStart number total at ≡ true → P at → P offset
     along here s p = p
     along {at} (onward l chain) s p = along chain (start-next number total at s l) (next at s l p)
+
+-- there are no others: a start is 0, or follows a start so
+pub record Follows (number total offset : ℕ) : Type 0 where
+  pub from : ℕ
+  pub start : isStart number total from ≡ true
+  pub ends : blockEnd number total from ≡ offset
+  pub within : offset < total
 
 pub start-before : (number total offset : ℕ) → isStart number total offset ≡ true → (offset ≡ 0) ⊎ Follows number total offset
 start-before number total =

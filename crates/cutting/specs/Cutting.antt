@@ -37,8 +37,8 @@ meets zero number total offset at = false
 meets (suc more) number total offset at =
     eqb at offset || (ltb (blockEnd number total at) total && meets more number total offset (blockEnd number total at))
 
--- the offset is a start of a block: it is met from 0 on, which is a start of an empty message too. A block that the message goes
--- on behind has a byte, so that there are not more starts than this
+-- the offset is a start of a block: it is met from 0 on, the start of an empty message too. Every block but the last has a byte, so
+-- that no message has more starts than this
 unfoldable pub isStart : ℕ → ℕ → ℕ → Bool
 isStart number total offset = meets (suc total) number total offset 0
 

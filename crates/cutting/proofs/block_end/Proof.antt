@@ -11,7 +11,9 @@ header-len-requires : tie.Need-header-len-requires
 header-len-requires c κs = search needs
 
 sub-room : tie.Need-sub-room
-sub-room c = let a = c .before .args in omega (arith, c .header-len .ensures, header-le (a .number) (a .total) (a .at))
+sub-room c =
+    let a = c .before .args in
+    omega (arith, c .header-len .ensures, header-le (a .number) (a .total) (a .at))
 
 sub-lesser : tie.Need-sub-lesser
 sub-lesser c = search needs

@@ -11,7 +11,7 @@ use Rattle.cutting.proofs.cut.Statement.{statement}
 use Rattle.cutting.proofs.cut.Tie as tie
 
 returns : tie.Need-returns
-unfolding PDU-MAX MESSAGE-MAX
+unfolding PDU-MAX
 returns c = short-buffer _ _ _ _ (c .if1 .taken)
 
 returns-2 : tie.Need-returns-2

@@ -14,11 +14,13 @@ block-end-requires c κs = search needs
 
 sub-block : tie.Need-sub-block
 sub-block c =
-    let a = c .before .before .before .args in omega (arith, c .block-end .ensures, end-from (a .number) (length (now (a .message))) (a .at))
+    let a = c .before .before .before .args in
+    omega (arith, c .block-end .ensures, end-from (a .number) (length (now (a .message))) (a .at))
 
 part-block-start : tie.Need-part-block-start
 part-block-start c =
-    let a = c .before .before .before .args in omega (arith, c .block-end .ensures, end-from (a .number) (length (now (a .message))) (a .at))
+    let a = c .before .before .before .args in
+    omega (arith, c .block-end .ensures, end-from (a .number) (length (now (a .message))) (a .at))
 
 part-block-end : tie.Need-part-block-end
 part-block-end c =
