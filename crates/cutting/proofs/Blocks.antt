@@ -51,11 +51,7 @@ module _ (number total at : ℕ) where
   unfolding blockLen PDU-MAX
   block-pos h = omega (arith, header-le)
 
-  -- so that its end is further on,
-  pub end-after : at < total → at < blockEnd number total at
-  unfolding blockEnd
-  end-after h = omega (arith, block-pos h)
-
+  -- the next offset is the block's length further on,
   pub end-is : blockEnd number total at ≡ at + blockLen number total at
   unfolding blockEnd
   end-is = refl
@@ -63,6 +59,11 @@ module _ (number total at : ℕ) where
   pub end-from : at ≤ blockEnd number total at
   unfolding blockEnd
   end-from = omega arith
+
+  -- past the offset where bytes are left,
+  pub end-after : at < total → at < blockEnd number total at
+  unfolding blockEnd
+  end-after h = omega (arith, block-pos h)
 
   -- and within the message
   pub end-within : at ≤ total → blockEnd number total at ≤ total
@@ -74,6 +75,7 @@ pub whole-end : (number total : ℕ) → total ≤ WHOLE-MAX → blockEnd number
 unfolding blockEnd blockLen PDU-MAX WHOLE-MAX
 whole-end number total h = omega (arith, header-le number total 0)
 
+-- in it, and in every block but the first, a Data; else a Data First
 pub whole-data : (total at : ℕ) → total ≤ WHOLE-MAX → isFirst total at ≡ false
 unfolding isFirst
 whole-data total at h = rw (le-ltb WHOLE-MAX total h)
