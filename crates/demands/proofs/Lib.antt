@@ -2,3 +2,4 @@ pub mod Traces
 pub mod Machine
 pub mod Joined
 pub mod Orders
+pub mod Cut

@@ -38,7 +38,7 @@ use Rattle.client.proofs.Calls.{passes}
 use Rattle.steps.proofs.Frame.{Steady}
 use Rattle.steps.proofs.Acts.{FineAct}
 use Rattle.steps.proofs.Channels.{FineEvent, ruled, step-answer, step-reply, step-state, step-own, step-other, step-steady, step-caps}
-use Rattle.steps.proofs.Calm.{Sane, Calm, sane-steady, calm-step, fine-pdu}
+use Rattle.steps.proofs.Calm.{Sane, Calm, sane-steady, steady-sane, calm-step, fine-pdu}
 use Rattle.channel.specs.declared.Concern.the-variants.{NoChannel}
 use Rattle.demands.proofs.Traces.{Framed}
 use Rattle.demands.specs.Runs.{Asked, Pdu, Close, Call, gives, after, firstOf, handedUp, Told, told, eventIn, isOf, isEventOf, fullTable, asksRoom, eventMeetsFull, meetsFull}
@@ -217,15 +217,14 @@ toldBy d = record { answer = d .answer; reply = d .reply; message = up (d .view)
 same-told : {a b : Answer} {r q : List ℕ} {m k : List (List ℕ)} → a ≡ b → r ≡ q → m ≡ k → _≡_ {A = Told} (record { answer = a; reply = r; message = m }) (record { answer = b; reply = q; message = k })
 same-told p q r = cc
 
-own-told : (l : ℕ) (st : State) (c : Call) → Running l st → (n : ℕ) (a : Act) → FineAct a → eventIn (c .asked) ≡ Of n a → told st c ≡ toldBy (ruled n st a)
+pub own-told : (st : State) (c : Call) → Steady st → (n : ℕ) (a : Act) → FineAct a → eventIn (c .asked) ≡ Of n a → told st c ≡ toldBy (ruled n st a)
 unfolding told wholeOf
-own-told l st c g n a z e =
-    let s = steady l st g in
+own-told st c s n a z e =
     let d = ruled n st a in
-    let whole : gives st (c .asked) (c .reply) ≡ wholeOf (c .reply) (stepped st (Of n a)) = call-step st c (g .calm .sane) ∙ ap (λ (x : Event). wholeOf (c .reply) (stepped st x)) e in
+    let whole : gives st (c .asked) (c .reply) ≡ wholeOf (c .reply) (stepped st (Of n a)) = call-step st c (steady-sane st s) ∙ ap (λ (x : Event). wholeOf (c .reply) (stepped st x)) e in
     let answer : stepped st (Of n a) .answer ≡ d .answer = step-answer st s n a in
     let reply : stepped st (Of n a) .reply ≡ d .reply = step-reply st s n a in
-    let state : after st c ≡ stepped st (Of n a) .state = call-state st c (g .calm .sane) ∙ ap (λ (x : Event). stepped st x .state) e in
+    let state : after st c ≡ stepped st (Of n a) .state = call-state st c (steady-sane st s) ∙ ap (λ (x : Event). stepped st x .state) e in
     let seen-view : view n (after st c) ≡ d .view = ap (view n) state ∙ step-own st s n a z in
     let fits : length (d .reply) ≤ length (c .reply) = omega (arith, act-short (st .table .level) n (roomIn st) (view n st) a, c .enough) in
     let same-answer : gives st (c .asked) (c .reply) .result .answer ≡ d .answer = ap (λ (w : Whole). w .result .answer) whole ∙ answer in
@@ -255,7 +254,7 @@ own-next l n st c g (Of m a) q z h =
     let m-n : m ≡ n = eqb-true m n h in
     rw (← m-n) (
       ap (view m) (call-state st c (g .calm .sane) ∙ ap (λ (x : Event). stepped st x .state) q) ∙ step-own st (steady l st g) m a z ∙ ap (λ (d : Did). d .view) (ruled-flag l st g m a),
-      own-told l st c g m a z q ∙ ap toldBy (ruled-flag l st g m a),
+      own-told st c (steady l st g) m a z q ∙ ap toldBy (ruled-flag l st g m a),
     )
 
 pub framed : (l n : ℕ) → Framed readCall after told meetsFull (isEventOf n) (view n) (chanNext l) (chanOut l) (Running l)

@@ -2,3 +2,4 @@ pub mod Trace
 pub mod Runs
 pub mod Joining
 pub mod Orders
+pub mod Cut

@@ -47,7 +47,7 @@ pub record Calm (st : State) : Type 0 where
 pub sane-steady : (st : State) → Sane st → st .table .ready ≡ true → Steady st
 sane-steady st c r = record { rows = c .rows; bytes = c .bytes; sound = c .sound; ready = r }
 
-steady-sane : (st : State) → Steady st → Sane st
+pub steady-sane : (st : State) → Steady st → Sane st
 steady-sane st g = record { rows = g .rows; bytes = g .bytes; sound = g .sound }
 
 -- what Start leaves

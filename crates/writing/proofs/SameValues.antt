@@ -75,11 +75,11 @@ close-back κs a r s n fromServer p g h =
     rw (w .stands, read-close fromServer (a .1 .0) h)
 
 -- the block of a Data, of a Data First, and the name of a Create request, as reading finds them
-block-back : (number : ℕ) (block : List ℕ) → bytesAt (dataBytes number block) (record { at = 1 + narrowest number; len = length block }) ≡ block
+pub block-back : (number : ℕ) (block : List ℕ) → bytesAt (dataBytes number block) (record { at = 1 + narrowest number; len = length block }) ≡ block
 unfolding bytesAt dataBytes
 block-back number block = rw (rest-behind DATA 0 number block) (take-length block)
 
-first-back : (number len : ℕ) (block : List ℕ) → bytesAt (dataFirstBytes number len block) (record { at = 1 + narrowest number + narrowest len; len = length block }) ≡ block
+pub first-back : (number len : ℕ) (block : List ℕ) → bytesAt (dataFirstBytes number len block) (record { at = 1 + narrowest number + narrowest len; len = length block }) ≡ block
 unfolding bytesAt dataFirstBytes
 first-back number len block = rw (drop-at (dataFirstHead number len) block _ (length-first-head number len)) (take-length block)
 
