@@ -26,7 +26,10 @@ use Rattle.channel.specs.declared.Record.{Record}
 use Rattle.channel.specs.declared.Offer.the-variants.{First, More}
 use Rattle.channel.specs.declared.Concern.{Concern}
 use Rattle.channel.specs.declared.Concern.the-variants.{NoChannel, Channel}
-use Rattle.channel.specs.declared.Answer.the-variants.{Refused as Refuses}
+use Rattle.channel.specs.declared.Answer.{Answer}
+use Rattle.channel.specs.declared.Answer.the-variants.{Ready, Opened, Declined, Held, Message, Closed, Ignored, Refused as Refuses}
+use Rattle.channel.specs.Answers.{wordOf, numberOf, refused as refused-word}
+use Rattle.paper.specs.Refusals.{refusalNumber}
 use Rattle.channel.specs.declared.Took.{Took}
 use Rattle.channel.specs.declared.Took.the-variants.{Bars, Spoils, Holds, Finishes}
 use Rattle.channel.specs.Stages.{added, begun, took}
@@ -230,3 +233,22 @@ receive-refusals t store list pdu reply = guarded-verdict t store reply (stepped
 pub local-close-refusals : (t : Table) (store : List ℕ) (n : ℕ) (reply : List ℕ) → verdictOf (locallyClosed t store n reply .result .answer) ≡ firstHeld (closeRows t store n reply)
 unfolding locallyClosed closeRows
 local-close-refusals t store n reply = guarded-verdict t store reply (stepped (stateOf t store) (Of n LocalClose)) (row WrongTime (not (t .ready)) ∷ row NotOpen (not (isOpen t n)) ∷ []) (λ s. local-verdict t store [] [] s n)
+
+-- ---- in the paper's terms: the word is 'refused', and the number the refusal's
+
+verdict-number : (answer : Answer) (why : Refusal) → verdictOf answer ≡ refusedWith why → (wordOf answer ≡ refused-word) × (numberOf answer ≡ refusalNumber why)
+unfolding verdictOf wordOf numberOf
+verdict-number (Ready level) why e = let z : _≡_ {A = ℕ} 0 1 = cc in absurd (omega arith)
+verdict-number (Opened n) why e = let z : _≡_ {A = ℕ} 0 1 = cc in absurd (omega arith)
+verdict-number (Declined n d) why e = let z : _≡_ {A = ℕ} 0 1 = cc in absurd (omega arith)
+verdict-number (Held n left) why e = let z : _≡_ {A = ℕ} 0 1 = cc in absurd (omega arith)
+verdict-number (Message n len) why e = let z : _≡_ {A = ℕ} 0 1 = cc in absurd (omega arith)
+verdict-number (Closed n) why e = let z : _≡_ {A = ℕ} 0 1 = cc in absurd (omega arith)
+verdict-number (Ignored n) why e = let z : _≡_ {A = ℕ} 0 1 = cc in absurd (omega arith)
+verdict-number (Refuses x concern) why e = let q : x ≡ why = cc in (refl, ap refusalNumber q)
+
+pub receive-number : (t : Table) (store list pdu reply : List ℕ) (why : Refusal) → firstHeld (receiveRows t store list pdu reply) ≡ refusedWith why → (wordOf (received t store list pdu reply .result .answer) ≡ refused-word) × (numberOf (received t store list pdu reply .result .answer) ≡ refusalNumber why)
+receive-number t store list pdu reply why h = verdict-number _ why (receive-refusals t store list pdu reply ∙ h)
+
+pub local-close-number : (t : Table) (store : List ℕ) (n : ℕ) (reply : List ℕ) (why : Refusal) → firstHeld (closeRows t store n reply) ≡ refusedWith why → (wordOf (locallyClosed t store n reply .result .answer) ≡ refused-word) × (numberOf (locallyClosed t store n reply .result .answer) ≡ refusalNumber why)
+local-close-number t store n reply why h = verdict-number _ why (local-close-refusals t store n reply ∙ h)
