@@ -3,3 +3,5 @@ pub mod Machine
 pub mod Joined
 pub mod Orders
 pub mod Cut
+pub mod Twice
+pub mod Sanity

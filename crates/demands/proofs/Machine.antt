@@ -49,13 +49,13 @@ pub record Running (l : ℕ) (st : State) : Type 0 where
   pub ready : st .table .ready ≡ true
   pub level : st .table .level ≡ l
 
-steady : (l : ℕ) (st : State) → Running l st → Steady st
+pub steady : (l : ℕ) (st : State) → Running l st → Steady st
 steady l st g = sane-steady st (g .calm .sane) (g .ready)
 
 -- ---- a call is a step: refusal 1 is not met
 
 -- a proper call of a sane state
-not-bad : (st : State) (c : Call) → Sane st → badCall (st .table) (length (st .store)) (length (c .reply)) ≡ false
+pub not-bad : (st : State) (c : Call) → Sane st → badCall (st .table) (length (st .store)) (length (c .reply)) ≡ false
 unfolding badCall
 not-bad st c s = rw (eq-eqb (length (st .store)) STORE (s .bytes), le-ltb (length (c .reply)) REPLY-MIN (c .enough), s .sound)
 
