@@ -1,0 +1,47 @@
+-- The lines that the walker prints. "Fields: place from 0; answer [..]; channel, `-` for ready and refusals 1 to 7; number [..];
+-- reply length." The text is ASCII: single spaces, decimal numbers, one LF (10) at the end.
+use Prim.Native.Nat.{ℕ}
+use mathlib.Core.List.{List, [], _∷_, _++_}
+use Rattle.channel.specs.declared.Concern.{Concern}
+use Rattle.channel.specs.declared.Concern.the-variants.{NoChannel, Channel}
+use Rattle.channel.specs.declared.Answer.{Answer}
+use Rattle.channel.specs.Answers.{Word, ready, opened, declined, held, message, closed, ignored, refused, wordOf, concernOf, numberOf}
+use Rattle.lines.specs.Decimal.{field}
+
+abbrev pub SPACE : ℕ
+SPACE = 32
+
+abbrev pub LF : ℕ
+LF = 10
+
+-- the most bytes that a line has: four numbers of twenty digits with the byte that ends each, a word of eight and its space
+abbrev pub LINE-MAX : ℕ
+LINE-MAX = 93
+
+-- "pdu answer channel number reply"
+unfoldable pub headerLine : List ℕ
+headerLine = 112 ∷ 100 ∷ 117 ∷ 32 ∷ 97 ∷ 110 ∷ 115 ∷ 119 ∷ 101 ∷ 114 ∷ 32 ∷ 99 ∷ 104 ∷ 97 ∷ 110 ∷ 110 ∷ 101 ∷ 108 ∷ 32 ∷ 110 ∷ 117 ∷ 109 ∷ 98 ∷ 101 ∷ 114 ∷ 32 ∷ 114 ∷ 101 ∷ 112 ∷ 108 ∷ 121 ∷ 10 ∷ []
+
+-- the answer's word and a space
+unfoldable pub wordField : Word → List ℕ
+wordField ready = 114 ∷ 101 ∷ 97 ∷ 100 ∷ 121 ∷ 32 ∷ []
+wordField opened = 111 ∷ 112 ∷ 101 ∷ 110 ∷ 101 ∷ 100 ∷ 32 ∷ []
+wordField declined = 100 ∷ 101 ∷ 99 ∷ 108 ∷ 105 ∷ 110 ∷ 101 ∷ 100 ∷ 32 ∷ []
+wordField held = 104 ∷ 101 ∷ 108 ∷ 100 ∷ 32 ∷ []
+wordField message = 109 ∷ 101 ∷ 115 ∷ 115 ∷ 97 ∷ 103 ∷ 101 ∷ 32 ∷ []
+wordField closed = 99 ∷ 108 ∷ 111 ∷ 115 ∷ 101 ∷ 100 ∷ 32 ∷ []
+wordField ignored = 105 ∷ 103 ∷ 110 ∷ 111 ∷ 114 ∷ 101 ∷ 100 ∷ 32 ∷ []
+wordField refused = 114 ∷ 101 ∷ 102 ∷ 117 ∷ 115 ∷ 101 ∷ 100 ∷ 32 ∷ []
+
+-- the channel, "`-` for ready and refusals 1 to 7"
+unfoldable pub channelField : Concern → List ℕ
+channelField NoChannel = 45 ∷ SPACE ∷ []
+channelField (Channel n) = field n SPACE
+
+unfoldable pub lineOf : ℕ → Answer → ℕ → List ℕ
+lineOf place answer sent =
+    (((field place SPACE ++ wordField (wordOf answer)) ++ channelField (concernOf answer)) ++ field (numberOf answer) SPACE) ++ field sent LF
+
+-- "A last record cut short prints its place and `cut`, and ends the run."
+unfoldable pub cutLineOf : ℕ → List ℕ
+cutLineOf place = field place SPACE ++ (99 ∷ 117 ∷ 116 ∷ 10 ∷ [])
