@@ -1,0 +1,10 @@
+-- Two outcomes that a function's contract permits are equal.
+-- `Reads.Post` is the contract as the source states it, read as plain facts.
+-- Assumes nothing.
+use mathlib.Core.Path.{_≡_}
+use Rattle.lists.proofs.Cases.{same}
+use Rattle.records.proofs.whole.Reads as whole
+
+pub whole-one : (κs : _) (a : _) (r r′ : _) (s s′ : _) → whole.Post κs a r s → whole.Post κs a r′ s′
+    → r ≡ r′
+whole-one κs a r r′ s s′ p q = same p q
