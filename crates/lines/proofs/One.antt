@@ -20,7 +20,7 @@ value-one κs a r r′ s s′ p q = same p q
 
 pub header-one : (κs : _) (a : _) (r r′ : _) (s s′ : _) → header.Post κs a r s → header.Post κs a r′ s′
     → (r ≡ r′) × (now (s .0) ≡ now (s′ .0))
-header-one κs a r r′ s s′ p q = (same (p .0) (q .0), same (p .1) (q .1))
+header-one κs a r r′ s s′ p q = (same (p .0 .0) (q .0 .0), same (p .1) (q .1))
 
 pub line-one : (κs : _) (a : _) (r r′ : _) (s s′ : _) → line.Post κs a r s → line.Post κs a r′ s′
     → (r ≡ r′) × (now (s .0) ≡ now (s′ .0))

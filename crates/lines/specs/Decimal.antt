@@ -17,6 +17,10 @@ digitsIn (suc steps) n = cond (ltb n 10) (digit n ∷ []) (digitsIn steps (n / 1
 unfoldable pub decimal : ℕ → List ℕ
 decimal n = digitsIn (suc n) n
 
+-- a number below 2 ^ 64 has at most twenty digits, and one byte ends them
+abbrev pub FIELD-MAX : ℕ
+FIELD-MAX = 21
+
 -- a number with the byte that ends it
 unfoldable pub field : ℕ → ℕ → List ℕ
 field n end = decimal n ++ (end ∷ [])

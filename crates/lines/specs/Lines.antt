@@ -1,12 +1,12 @@
 -- The lines that the walker prints. "Fields: place from 0; answer [..]; channel, `-` for ready and refusals 1 to 7; number [..];
 -- reply length." The text is ASCII: single spaces, decimal numbers, one LF (10) at the end.
-use Prim.Native.Nat.{ℕ}
+use Prim.Native.Nat.{ℕ, _+_, _*_}
 use mathlib.Core.List.{List, [], _∷_, _++_}
 use Rattle.channel.specs.declared.Concern.{Concern}
 use Rattle.channel.specs.declared.Concern.the-variants.{NoChannel, Channel}
 use Rattle.channel.specs.declared.Answer.{Answer}
 use Rattle.channel.specs.Answers.{Word, ready, opened, declined, held, message, closed, ignored, refused, wordOf, concernOf, numberOf}
-use Rattle.lines.specs.Decimal.{field}
+use Rattle.lines.specs.Decimal.{FIELD-MAX, field}
 
 abbrev pub SPACE : ℕ
 SPACE = 32
@@ -14,9 +14,13 @@ SPACE = 32
 abbrev pub LF : ℕ
 LF = 10
 
--- the most bytes that a line has: four numbers of twenty digits with the byte that ends each, a word of eight and its space
+-- a word's field has at most eight letters and a space
+abbrev pub WORD-MAX : ℕ
+WORD-MAX = 9
+
+-- the most bytes that a line has, with each number below 2 ^ 64: four numbers and a word
 abbrev pub LINE-MAX : ℕ
-LINE-MAX = 93
+LINE-MAX = 4 * FIELD-MAX + WORD-MAX
 
 -- "pdu answer channel number reply"
 unfoldable pub headerLine : List ℕ

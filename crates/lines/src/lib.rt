@@ -7,18 +7,21 @@ use channel::Answer;
 use channel::Concern;
 use channel::Decline;
 ghost use mathlib.Core.Path.{_≡_};
-ghost use Prim.Native.Nat.{_≤_};
+ghost use Prim.Native.Nat.{_≤_, _<_};
 ghost use lib.ListN.{length, drop};
 ghost use Rattle.lists.specs.Bytes.{laid};
 ghost use Rattle.channel.specs.Answers.{concernOf, numberOf, wordOf};
-ghost use Rattle.lines.specs.Decimal.{field};
-ghost use Rattle.lines.specs.Lines.{LINE-MAX, headerLine, wordField, channelField, lineOf, cutLineOf};
+ghost use Rattle.lines.specs.Decimal.{FIELD-MAX, field};
+ghost use Rattle.lines.specs.Lines.{WORD-MAX, LINE-MAX, headerLine, wordField, channelField, lineOf, cutLineOf};
 
 // A number's field has at most twenty digits and the byte that ends it.
 const FIELD_MAX: usize = 21;
 
-// The most bytes that a line has: four numbers, and a word of at most eight letters with its space.
-pub const LINE_MAX: usize = 4 * FIELD_MAX + 9;
+// A word's field has at most eight letters and a space.
+const WORD_MAX: usize = 9;
+
+// The most bytes that a line has: four numbers and a word.
+pub const LINE_MAX: usize = 4 * FIELD_MAX + WORD_MAX;
 
 // A field, at the end of its scratch.
 struct Field {
@@ -28,7 +31,7 @@ struct Field {
 
 // The number's decimal digits and the byte that ends them.
 fn spelled(n: u64, end: u8) -> Field
-    ensures { λ r. ⌜ (r .start ≤ 20) × (length (r .bytes) ≡ 21) × (drop (r .start) (r .bytes) ≡ field n end) ⌝ }
+    ensures { λ r. ⌜ (r .start < FIELD-MAX) × (length (r .bytes) ≡ FIELD-MAX) × (drop (r .start) (r .bytes) ≡ field n end) ⌝ }
 {
     let mut bytes = [0u8; FIELD_MAX];
     bytes[FIELD_MAX - 1] = end;
@@ -46,7 +49,7 @@ fn spelled(n: u64, end: u8) -> Field
 
 // A number's field, from a place on. Answers its length.
 fn number(out: &mut [u8], at: usize, n: u64, end: u8) -> usize
-    ensures { λ r. ⌜ (r ≡ length (field n end)) × (r ≤ 21) ⌝ }
+    ensures { λ r. ⌜ (r ≡ length (field n end)) × (r ≤ FIELD-MAX) ⌝ }
     ensures { λ _. ⌜ now (out .exit) ≡ laid (now (out .entry)) at (field n end) ⌝ }
 {
     let spelled = spelled(n, end);
@@ -67,7 +70,7 @@ fn text(out: &mut [u8], at: usize, bytes: &[u8]) -> usize
 
 // The answer's word and a space, from a place on.
 fn word(out: &mut [u8], at: usize, answer: Answer) -> usize
-    ensures { λ r. ⌜ (r ≡ length (wordField (wordOf answer))) × (r ≤ 9) ⌝ }
+    ensures { λ r. ⌜ (r ≡ length (wordField (wordOf answer))) × (r ≤ WORD-MAX) ⌝ }
     ensures { λ _. ⌜ now (out .exit) ≡ laid (now (out .entry)) at (wordField (wordOf answer)) ⌝ }
 {
     match answer {
@@ -119,7 +122,7 @@ pub fn value(answer: Answer) -> u64
 
 // The channel's number and a space, or `- `, from a place on.
 fn channel(out: &mut [u8], at: usize, concern: Concern) -> usize
-    ensures { λ r. ⌜ (r ≡ length (channelField concern)) × (r ≤ 21) ⌝ }
+    ensures { λ r. ⌜ (r ≡ length (channelField concern)) × (r ≤ FIELD-MAX) ⌝ }
     ensures { λ _. ⌜ now (out .exit) ≡ laid (now (out .entry)) at (channelField concern) ⌝ }
 {
     match concern {
@@ -130,7 +133,7 @@ fn channel(out: &mut [u8], at: usize, concern: Concern) -> usize
 
 // The first line, which names the fields.
 pub fn header(out: &mut [u8]) -> usize
-    ensures { λ r. ⌜ r ≡ length headerLine ⌝ }
+    ensures { λ r. ⌜ (r ≡ length headerLine) × (r ≤ LINE-MAX) ⌝ }
     ensures { λ _. ⌜ now (out .exit) ≡ laid (now (out .entry)) 0 headerLine ⌝ }
 {
     text(out, 0, b"pdu answer channel number reply\n")

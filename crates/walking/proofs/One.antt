@@ -27,4 +27,4 @@ walked-one went p q = (same (as-it-went went p) (as-it-went went q), same (p .st
 
 pub walk-one : (κs : _) (a : _) (r r′ : _) (s s′ : _) → walk.Post κs a r s → walk.Post κs a r′ s′
     → (r ≡ r′) × (now (s .1 .0) ≡ now (s′ .1 .0)) × (now (s .1 .1 .1 .1 .0) ≡ now (s′ .1 .1 .1 .1 .0))
-walk-one κs a r r′ s s′ p q = walked-one _ p q
+walk-one κs a r r′ s s′ p q = walked-one _ (p .0) (q .0)

@@ -74,6 +74,7 @@ pub fn walk(
     out: &mut [u8],
 ) -> Walked
     ensures { λ r. ⌜ Walks (walkOver (now (list .entry)) (length (now (out .entry))) (walkOf kept (now (store .entry))) (pdus (now (input .entry)))) (now (out .entry)) r (now (store .exit)) (now (out .exit)) ⌝ }
+    ensures within { λ r. ⌜ (r .taken ≤ length (now (input .entry))) × (r .laid ≤ length (now (out .entry))) ⌝ }
 {
     let mut next = kept;
     let mut at = 0;

@@ -147,7 +147,7 @@ returns : tie.Need-returns Inv-loop μ-loop
 returns c =
     let l = c .before .loop in
     let room = l .inv .1 .same-room in
-    ends _ _ _ (l .store) (l .out) (l .next) (l .at) (l .used) (l .inv .1) (no-room _ _ _ _ (omega arith))
+    (ends _ _ _ (l .store) (l .out) (l .next) (l .at) (l .used) (l .inv .1) (no-room _ _ _ _ (omega arith)), (l .inv .1 .at-in, omega (arith, l .inv .1 .used-in)))
 
 same-length-3 : tie.Need-same-length-3 Inv-loop μ-loop
 same-length-3 c = c .before .before .before .before .loop .inv .0
@@ -160,7 +160,7 @@ returns-2 c =
     let l = c .before .before .before .before .loop in
     let input = now (c .before .before .before .before .before .before .before .before .before .args .input) in
     let whole = c .before .whole .ensures ∙ ap wholeOf (to-end input (l .at)) in
-    ends _ _ _ (l .store) (l .out) (l .next) (l .at) (l .used) (l .inv .1) (no-record _ _ _ (drop (l .at) input) (omega (arith, c .if1 .taken, whole)))
+    (ends _ _ _ (l .store) (l .out) (l .next) (l .at) (l .used) (l .inv .1) (no-record _ _ _ (drop (l .at) input) (omega (arith, c .if1 .taken, whole))), (l .inv .1 .at-in, omega (arith, l .inv .1 .used-in, l .inv .1 .same-room)))
 
 pub walk-spec : {M : Type 1} → statement M
 walk-spec =
