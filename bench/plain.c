@@ -1,0 +1,528 @@
+/*
+ * The client end of [MS-RDPEDYC] dynamic virtual channels in plain C: what the
+ * proved library is measured against and compared with.  It was written from
+ * the rules alone and shares nothing with the library.
+ *
+ *   plain walk < PDUS         a line for each PDU; the one listener is PUMP
+ *   plain bench ROUNDS FILE   all PDUs of FILE, ROUNDS times, each round from
+ *                             Start; how many PDUs got each answer
+ *
+ * The input is PDUs, each after its length in two bytes, little-endian.
+ *
+ * The state is one struct behind a pointer and nobody else can touch it, so
+ * refusal 1 (a buffer of the wrong size, an unsound table) cannot happen here.
+ */
+#include <stdbool.h>
+#include <stdint.h>
+#include <stdio.h>
+#include <stdlib.h>
+#include <string.h>
+
+enum {
+    PDU_MAX = 1600,
+    MESSAGE_MAX = 4096,
+    CHANNELS = 16,
+    LIST_MAX = 512,
+    REPLY_MAX = 9,
+    OUR_VERSION = 2,
+    RECORD_MAX = 65535,
+    FILE_MAX = 2 * 1024 * 1024,
+    ROUNDS_END = 1000000000
+};
+
+enum refusal {
+    GOOD = 0,
+    CUT_SHORT = 2,
+    TOO_LONG = 3,
+    BAD_COMMAND = 4,
+    BAD_FIELD = 5,
+    BAD_LIST = 6,
+    OUT_OF_TURN = 7,
+    NOT_OPEN = 8,
+    ALREADY_OPEN = 9,
+    FIRST_WHILE_JOINING = 10,
+    LENGTH_OVER = 11,
+    BLOCK_OVER = 12,
+    SPOILED_CHANNEL = 13
+};
+
+#define STATUS_UNLISTED UINT32_C(0x80070490)
+#define STATUS_FULL UINT32_C(0x8007000E)
+
+/* ---- PDUs ---- */
+
+enum command { CREATE = 1, DATA_FIRST = 2, DATA = 3, CLOSE = 4, CAPABILITIES = 5 };
+
+struct pdu {
+    enum command command;
+    uint32_t number;
+    uint32_t length;     /* of the whole message: Data First only */
+    uint16_t version;    /* Capabilities only */
+    uint8_t priority;    /* Create only */
+    const uint8_t *body; /* the name without its zero, or the data */
+    size_t body_length;
+};
+
+struct cursor {
+    const uint8_t *at, *end;
+};
+
+static bool take_number(struct cursor *c, unsigned width_code, uint32_t *value)
+{
+    const uint8_t *p = c->at;
+    size_t width = (size_t)1 << width_code;
+
+    if ((size_t)(c->end - p) < width)
+        return false;
+    switch (width) {
+    case 1:
+        *value = p[0];
+        break;
+    case 2:
+        *value = (uint32_t)p[0] | (uint32_t)p[1] << 8;
+        break;
+    default:
+        *value = (uint32_t)p[0] | (uint32_t)p[1] << 8 | (uint32_t)p[2] << 16 | (uint32_t)p[3] << 24;
+        break;
+    }
+    c->at = p + width;
+    return true;
+}
+
+static enum refusal read_capabilities(struct cursor c, struct pdu *pdu)
+{
+    enum { CHARGES = 8 };
+    uint32_t pad, version;
+
+    if (!take_number(&c, 0, &pad))
+        return CUT_SHORT;
+    if (pad != 0)
+        return BAD_FIELD;
+    if (!take_number(&c, 1, &version))
+        return CUT_SHORT;
+    if (version < 1 || version > 3)
+        return BAD_FIELD;
+    if (version > 1) {
+        if (c.end - c.at < CHARGES)
+            return CUT_SHORT;
+        c.at += CHARGES;
+    }
+    if (c.at != c.end)
+        return BAD_FIELD;
+    pdu->version = (uint16_t)version;
+    return GOOD;
+}
+
+/* Reads a PDU that came from the server. */
+static enum refusal read_pdu(const uint8_t *bytes, size_t length, struct pdu *pdu)
+{
+    struct cursor c;
+    unsigned command, middle, id_width;
+
+    if (length == 0)
+        return CUT_SHORT;
+    if (length > PDU_MAX)
+        return TOO_LONG;
+    command = bytes[0] >> 4;
+    middle = bytes[0] >> 2 & 3;
+    id_width = bytes[0] & 3;
+    c.at = bytes + 1;
+    c.end = bytes + length;
+
+    if (command < CREATE || command > CAPABILITIES)
+        return BAD_COMMAND;
+    pdu->command = (enum command)command;
+    if (command == CAPABILITIES) {
+        if (id_width != 0)
+            return BAD_FIELD;
+        return read_capabilities(c, pdu);
+    }
+    if (id_width == 3 || (command == DATA_FIRST && middle == 3))
+        return BAD_FIELD;
+    if (!take_number(&c, id_width, &pdu->number))
+        return CUT_SHORT;
+    if (command == DATA_FIRST && !take_number(&c, middle, &pdu->length))
+        return CUT_SHORT;
+
+    pdu->body = c.at;
+    pdu->body_length = (size_t)(c.end - c.at);
+    if (command == CLOSE && pdu->body_length != 0)
+        return BAD_FIELD;
+    if (command == CREATE) {
+        const uint8_t *zero = memchr(pdu->body, 0, pdu->body_length);
+
+        if (zero == NULL)
+            return CUT_SHORT;
+        if (zero + 1 != c.end)
+            return BAD_FIELD;
+        pdu->body_length--;
+        pdu->priority = (uint8_t)middle;
+    }
+    return GOOD;
+}
+
+/* ---- replies: numbers go in the narrowest width ---- */
+
+static size_t put_header(uint8_t *out, enum command command, uint32_t number)
+{
+    unsigned width_code = number <= 0xFF ? 0 : number <= 0xFFFF ? 1 : 2;
+    size_t width = (size_t)1 << width_code;
+
+    out[0] = (uint8_t)((unsigned)command << 4 | width_code);
+    for (size_t i = 0; i < width; i++)
+        out[1 + i] = (uint8_t)(number >> 8 * i);
+    return 1 + width;
+}
+
+static size_t put_create_response(uint8_t *out, uint32_t number, uint32_t status)
+{
+    size_t n = put_header(out, CREATE, number);
+
+    for (size_t i = 0; i < 4; i++)
+        out[n + i] = (uint8_t)(status >> 8 * i);
+    return n + 4;
+}
+
+static size_t put_capabilities_response(uint8_t *out)
+{
+    out[0] = CAPABILITIES << 4;
+    out[1] = 0;
+    out[2] = OUR_VERSION;
+    out[3] = 0;
+    return 4;
+}
+
+/* ---- the listener list: names, each ended by one zero ---- */
+
+static bool list_good(const uint8_t *list, size_t length)
+{
+    if (length > LIST_MAX)
+        return false;
+    if (length == 0)
+        return true;
+    if (list[0] == 0 || list[length - 1] != 0)
+        return false;
+    for (size_t i = 1; i < length; i++)
+        if (list[i] == 0 && list[i - 1] == 0)
+            return false;
+    return true;
+}
+
+static bool list_has(const uint8_t *list, size_t length, const uint8_t *name, size_t name_length)
+{
+    const uint8_t *end = list + length;
+
+    while (list < end) {
+        const uint8_t *zero = memchr(list, 0, (size_t)(end - list));
+
+        if ((size_t)(zero - list) == name_length && memcmp(list, name, name_length) == 0)
+            return true;
+        list = zero + 1;
+    }
+    return false;
+}
+
+/* ---- the manager ---- */
+
+enum stage { IDLE, JOINING, SPOILED };
+
+struct channel {
+    uint32_t number;
+    bool open;
+    uint8_t priority_class;
+    uint8_t stage;
+    uint16_t wanted, held; /* while joining */
+};
+
+struct manager {
+    bool ready;
+    uint8_t level;
+    struct channel channels[CHANNELS];
+    uint8_t store[CHANNELS][MESSAGE_MAX];
+};
+
+enum word { READY, OPENED, DECLINED, HELD, MESSAGE, CLOSED, IGNORED, REFUSED, WORDS };
+
+static const char *const word_names[WORDS] = {"ready",   "opened", "declined", "held",
+                                              "message", "closed", "ignored",  "refused"};
+
+enum { UNLISTED = 1, FULL = 2 };
+
+struct answer {
+    enum word word;
+    bool has_channel;
+    uint32_t channel;
+    uint32_t number; /* level, bytes still to come, message length, refusal, why declined */
+    size_t reply_length;
+};
+
+static struct answer refused(enum refusal refusal)
+{
+    return (struct answer){.word = REFUSED, .number = refusal};
+}
+
+static struct answer refused_channel(enum refusal refusal, uint32_t channel)
+{
+    return (struct answer){.word = REFUSED, .has_channel = true, .channel = channel, .number = refusal};
+}
+
+static struct answer answered(enum word word, uint32_t channel, uint32_t number, size_t reply_length)
+{
+    return (struct answer){word, true, channel, number, reply_length};
+}
+
+static void start(struct manager *m)
+{
+    memset(m, 0, sizeof *m);
+}
+
+static struct channel *find(struct manager *m, uint32_t number)
+{
+    for (struct channel *ch = m->channels; ch < m->channels + CHANNELS; ch++)
+        if (ch->number == number && ch->open)
+            return ch;
+    return NULL;
+}
+
+static struct channel *find_free(struct manager *m)
+{
+    for (struct channel *ch = m->channels; ch < m->channels + CHANNELS; ch++)
+        if (!ch->open)
+            return ch;
+    return NULL;
+}
+
+static struct answer on_capabilities(struct manager *m, const struct pdu *pdu, uint8_t *reply)
+{
+    if (m->ready)
+        return refused(OUT_OF_TURN);
+    m->ready = true;
+    m->level = pdu->version < 2 ? 1 : 2;
+    return (struct answer){.word = READY, .number = m->level, .reply_length = put_capabilities_response(reply)};
+}
+
+static struct answer on_create(struct manager *m, const struct pdu *pdu, const uint8_t *list, size_t list_length,
+                               uint8_t *reply)
+{
+    uint32_t number = pdu->number;
+    struct channel *ch;
+
+    if (!list_good(list, list_length))
+        return refused(BAD_LIST);
+    if (find(m, number) != NULL)
+        return refused_channel(ALREADY_OPEN, number);
+    if (!list_has(list, list_length, pdu->body, pdu->body_length))
+        return answered(DECLINED, number, UNLISTED, put_create_response(reply, number, STATUS_UNLISTED));
+    ch = find_free(m);
+    if (ch == NULL)
+        return answered(DECLINED, number, FULL, put_create_response(reply, number, STATUS_FULL));
+    ch->number = number;
+    ch->open = true;
+    ch->priority_class = m->level == 2 ? pdu->priority : 0;
+    ch->stage = IDLE;
+    return answered(OPENED, number, 0, put_create_response(reply, number, 0));
+}
+
+/* What is wrong with a block stays wrong: the rest of its message must not
+ * pass for messages of its own, so the channel is spoiled until it is closed. */
+static struct answer spoil(struct channel *ch, enum refusal refusal)
+{
+    ch->stage = SPOILED;
+    ch->wanted = ch->held = 0;
+    return refused_channel(refusal, ch->number);
+}
+
+static struct answer on_data(struct manager *m, const struct pdu *pdu)
+{
+    struct channel *ch = find(m, pdu->number);
+    size_t n = pdu->body_length;
+    uint32_t wanted, held;
+
+    if (ch == NULL)
+        return refused_channel(NOT_OPEN, pdu->number);
+    if (ch->stage == SPOILED)
+        return refused_channel(SPOILED_CHANNEL, pdu->number);
+    if (ch->stage == JOINING) {
+        if (pdu->command == DATA_FIRST)
+            return spoil(ch, FIRST_WHILE_JOINING);
+        wanted = ch->wanted;
+        held = ch->held;
+    } else {
+        wanted = pdu->command == DATA_FIRST ? pdu->length : (uint32_t)n;
+        held = 0;
+        if (wanted > MESSAGE_MAX)
+            return spoil(ch, LENGTH_OVER);
+    }
+    if (n > wanted - held)
+        return spoil(ch, BLOCK_OVER);
+
+    memcpy(m->store[ch - m->channels] + held, pdu->body, n);
+    held += (uint32_t)n;
+    if (held == wanted) {
+        ch->stage = IDLE;
+        ch->wanted = ch->held = 0;
+        return answered(MESSAGE, pdu->number, wanted, 0);
+    }
+    ch->stage = JOINING;
+    ch->wanted = (uint16_t)wanted;
+    ch->held = (uint16_t)held;
+    return answered(HELD, pdu->number, wanted - held, 0);
+}
+
+static struct answer on_close(struct manager *m, const struct pdu *pdu, uint8_t *reply)
+{
+    struct channel *ch = find(m, pdu->number);
+
+    if (ch == NULL)
+        return answered(IGNORED, pdu->number, 0, 0);
+    memset(m->store[ch - m->channels], 0, MESSAGE_MAX);
+    *ch = (struct channel){0};
+    return answered(CLOSED, pdu->number, 0, put_header(reply, CLOSE, pdu->number));
+}
+
+/* One PDU from the server. */
+static struct answer receive(struct manager *m, const uint8_t *bytes, size_t length, const uint8_t *list,
+                             size_t list_length, uint8_t reply[REPLY_MAX])
+{
+    struct pdu pdu;
+    enum refusal refusal = read_pdu(bytes, length, &pdu);
+
+    if (refusal != GOOD)
+        return refused(refusal);
+    if (pdu.command == CAPABILITIES)
+        return on_capabilities(m, &pdu, reply);
+    if (!m->ready)
+        return refused(OUT_OF_TURN);
+    switch (pdu.command) {
+    case CREATE:
+        return on_create(m, &pdu, list, list_length, reply);
+    case CLOSE:
+        return on_close(m, &pdu, reply);
+    default:
+        return on_data(m, &pdu);
+    }
+}
+
+/* ---- the two programs ---- */
+
+static const uint8_t listeners[] = "PUMP"; /* with its zero: one name */
+
+static struct manager the_manager;
+static uint8_t the_reply[REPLY_MAX];
+
+static void print_answer(uint64_t place, const struct answer *a)
+{
+    printf("%llu %s ", (unsigned long long)place, word_names[a->word]);
+    if (a->has_channel)
+        printf("%lu", (unsigned long)a->channel);
+    else
+        putchar('-');
+    printf(" %lu %zu\n", (unsigned long)a->number, a->reply_length);
+}
+
+static int walk(void)
+{
+    static uint8_t record[RECORD_MAX];
+
+    start(&the_manager);
+    puts("pdu answer channel number reply");
+    for (uint64_t place = 0;; place++) {
+        uint8_t prefix[2];
+        size_t got = fread(prefix, 1, sizeof prefix, stdin);
+        size_t length;
+        struct answer a;
+
+        if (got == 0)
+            break;
+        length = got < sizeof prefix ? 0 : (size_t)prefix[0] | (size_t)prefix[1] << 8;
+        if (got < sizeof prefix || fread(record, 1, length, stdin) < length) {
+            printf("%llu cut\n", (unsigned long long)place);
+            break;
+        }
+        a = receive(&the_manager, record, length, listeners, sizeof listeners, the_reply);
+        print_answer(place, &a);
+    }
+    if (ferror(stdin) || fflush(stdout) != 0 || ferror(stdout)) {
+        fputs("plain: input or output failed\n", stderr);
+        return 1;
+    }
+    return 0;
+}
+
+/* A whole file of at most FILE_MAX bytes. */
+static bool read_file(const char *name, uint8_t *into, size_t *length)
+{
+    FILE *f = fopen(name, "rb");
+    bool good;
+
+    if (f == NULL)
+        return false;
+    *length = fread(into, 1, FILE_MAX, f);
+    good = !ferror(f) && fgetc(f) == EOF;
+    fclose(f);
+    return good;
+}
+
+/* One round from Start; a last record cut short is left out. */
+static void one_round(const uint8_t *file, size_t length, uint64_t counts[WORDS])
+{
+    size_t at = 0;
+
+    start(&the_manager);
+    while (length - at >= 2) {
+        size_t n = (size_t)file[at] | (size_t)file[at + 1] << 8;
+        struct answer a;
+
+        at += 2;
+        if (n > length - at)
+            break;
+        a = receive(&the_manager, file + at, n, listeners, sizeof listeners, the_reply);
+        counts[a.word]++;
+        at += n;
+    }
+}
+
+static int bench(uint32_t rounds, const char *name)
+{
+    static uint8_t file[FILE_MAX];
+    uint64_t counts[WORDS] = {0}, pdus = 0;
+    size_t length;
+
+    if (!read_file(name, file, &length)) {
+        puts("cannot read the file, or it is over 2 MiB");
+        return 1;
+    }
+    for (uint32_t i = 0; i < rounds; i++)
+        one_round(file, length, counts);
+    for (int w = 0; w < WORDS; w++)
+        pdus += counts[w];
+    printf("pdus %llu\n", (unsigned long long)pdus);
+    for (int w = 0; w < WORDS; w++)
+        printf("%s %llu\n", word_names[w], (unsigned long long)counts[w]);
+    return 0;
+}
+
+/* Decimal digits that make a count below ROUNDS_END. */
+static bool read_count(const char *s, uint32_t *count)
+{
+    if (*s == '\0')
+        return false;
+    for (*count = 0; *s != '\0'; s++) {
+        if (*s < '0' || *s > '9' || *count >= ROUNDS_END / 10)
+            return false;
+        *count = 10 * *count + (uint32_t)(*s - '0');
+    }
+    return true;
+}
+
+int main(int argc, char **argv)
+{
+    uint32_t rounds;
+
+    if (argc == 2 && strcmp(argv[1], "walk") == 0)
+        return walk();
+    if (argc == 4 && strcmp(argv[1], "bench") == 0 && read_count(argv[2], &rounds))
+        return bench(rounds, argv[3]);
+    puts("usage: plain walk | plain bench ROUNDS FILE");
+    return 2;
+}

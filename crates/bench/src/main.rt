@@ -1,0 +1,228 @@
+// The benchmark: all PDUs of a file, many times in memory, and how many of them got each answer.
+//
+// Called as `bench bench ROUNDS FILE`. FILE has PDUs, each after its length in two bytes, little-endian, and at most
+// 2 MiB. Each round begins with Start and hands every PDU to `client::receive`, with the one listener PUMP. Then it
+// prints `pdus N` and, for each answer word, how many PDUs got it. bench/plain.c prints the same from plain C.
+use channel::Answer;
+use libc::STDOUT_FILENO;
+ghost use mathlib.Core.Path.{_≡_};
+ghost use Prim.Native.Nat.{_<_, _≤_};
+ghost use lib.ListN.{length};
+ghost use Rattle.bench.specs.Tallies.{plus, tallied, noPdus, sumOf};
+
+// The most bytes that a file has.
+const FILE_MAX: usize = 2097152;
+
+// Every count of rounds is below this.
+const ROUNDS_END: u64 = 1000000000;
+
+// How many PDUs got each answer word.
+struct Tally {
+    ready: u64,
+    opened: u64,
+    declined: u64,
+    held: u64,
+    message: u64,
+    closed: u64,
+    ignored: u64,
+    refused: u64,
+}
+
+// The sum of two counts. It goes on from 0 where 64 bits end.
+fn plus(a: u64, b: u64) -> u64
+    ensures { λ r. ⌜ r ≡ plus a b ⌝ }
+{
+    std::num::wrapping_add_u64(a, b)
+}
+
+// The tally with one more PDU for the answer's word.
+fn tallied(tally: Tally, answer: Answer) -> Tally
+    ensures { λ r. ⌜ r ≡ tallied tally answer ⌝ }
+{
+    let mut now = tally;
+    match answer {
+        Answer::Ready { level: _ } => now.ready = plus(now.ready, 1),
+        Answer::Opened { number: _ } => now.opened = plus(now.opened, 1),
+        Answer::Declined { number: _, why: _ } => now.declined = plus(now.declined, 1),
+        Answer::Held { number: _, left: _ } => now.held = plus(now.held, 1),
+        Answer::Message { number: _, len: _ } => now.message = plus(now.message, 1),
+        Answer::Closed { number: _ } => now.closed = plus(now.closed, 1),
+        Answer::Ignored { number: _ } => now.ignored = plus(now.ignored, 1),
+        Answer::Refused { why: _, concern: _ } => now.refused = plus(now.refused, 1),
+    }
+    now
+}
+
+// The byte as a size.
+fn wide(byte: u8) -> usize
+    ensures { λ r. ⌜ (r ≡ byte) × (r < 256) ⌝ }
+{
+    byte as usize
+}
+
+// One round: Start, then each whole record of the file. A last record that is cut short is left out.
+fn one_round(file: &[u8], store: &mut [u8], reply: &mut [u8], before: Tally) -> Tally
+    ensures { λ _. ⌜ length (now (store .exit)) ≡ length (now (store .entry)) ⌝ }
+{
+    let mut table = client::start(store).table;
+    let mut tally = before;
+    let mut at = 0;
+    while 2 <= file.len() - at {
+        let start = at + 2;
+        let n = wide(file[at]) + 256 * wide(file[at + 1]);
+        if file.len() - start < n {
+            return tally;
+        }
+        let end = start + n;
+        let got = client::receive(table, store, b"PUMP\0", &file[start..end], reply);
+        let next = got.table;
+        let answer = got.answer;
+        table = next;
+        tally = tallied(tally, answer);
+        at = end;
+    }
+    tally
+}
+
+// So many rounds over the file.
+fn run(rounds: u64, file: &[u8]) -> Tally
+    ensures { λ r. ⌜ (rounds ≡ 0 → r ≡ noPdus) ⌝ }
+{
+    let mut store = [0u8; paper::STORE];
+    let mut reply = [0u8; paper::REPLY_MIN];
+    let mut tally = Tally {
+        ready: 0,
+        opened: 0,
+        declined: 0,
+        held: 0,
+        message: 0,
+        closed: 0,
+        ignored: 0,
+        refused: 0,
+    };
+    let mut left = rounds;
+    while 0 < left {
+        tally = one_round(file, &mut store, &mut reply, tally);
+        left -= 1;
+    }
+    tally
+}
+
+// How many PDUs there were.
+fn sum(t: Tally) -> u64
+    ensures { λ r. ⌜ r ≡ sumOf t ⌝ }
+{
+    let first = plus(plus(t.ready, t.opened), plus(t.declined, t.held));
+    let last = plus(plus(t.message, t.closed), plus(t.ignored, t.refused));
+    plus(first, last)
+}
+
+// Writes a word, a space and a number as a line. Answers how many lines were written.
+fn print_line(word: &[u8], number: u64) -> usize
+    ensures { λ r. ⌜ r ≤ 1 ⌝ }
+{
+    io::write_all(STDOUT_FILENO, word);
+    io::write_all(STDOUT_FILENO, b" ");
+    io::print_decimal(STDOUT_FILENO, number);
+    if io::write_all(STDOUT_FILENO, b"\n") {
+        return 1;
+    }
+    0
+}
+
+// Writes the tally. Answers how many lines were written.
+fn print_tally(t: Tally) -> usize
+    ensures { λ r. ⌜ r ≤ 9 ⌝ }
+{
+    print_line(b"pdus", sum(t))
+        + print_line(b"ready", t.ready)
+        + print_line(b"opened", t.opened)
+        + print_line(b"declined", t.declined)
+        + print_line(b"held", t.held)
+        + print_line(b"message", t.message)
+        + print_line(b"closed", t.closed)
+        + print_line(b"ignored", t.ignored)
+        + print_line(b"refused", t.refused)
+}
+
+// The value of a decimal digit, or ten for any other byte.
+fn digit(byte: u8) -> u64
+    ensures { λ r. ⌜ r ≤ 10 ⌝ }
+{
+    if byte < b'0' {
+        return 10;
+    }
+    if b'9' < byte {
+        return 10;
+    }
+    (byte - b'0') as u64
+}
+
+// The number that decimal digits make, or ROUNDS_END where they make none below it.
+fn count_of(text: &[u8]) -> u64
+    ensures { λ r. ⌜ r ≤ 1000000000 ⌝ }
+{
+    if text.len() == 0 {
+        return ROUNDS_END;
+    }
+    let mut count = 0;
+    let mut i = 0;
+    while i < text.len() {
+        let next = digit(text[i]);
+        if 9 < next {
+            return ROUNDS_END;
+        }
+        if ROUNDS_END / 10 <= count {
+            return ROUNDS_END;
+        }
+        count = 10 * count + next;
+        i += 1;
+    }
+    count
+}
+
+// Reads the file into the room lent, and runs it. Answers how many lines were written.
+fn run_file(rounds: u64, path: &[u8], room: &mut [u8]) -> usize
+    ensures { λ r. ⌜ r ≤ 9 ⌝ }
+{
+    let fd = os::open_read(path);
+    let n = io::read_full(fd, room);
+    if fd < 0 || FILE_MAX < n {
+        io::write_all(
+            STDOUT_FILENO,
+            b"cannot read the file, or it is over 2 MiB\n",
+        );
+        return 1;
+    }
+    print_tally(run(rounds, &room[..n]))
+}
+
+// Room for a file, with one byte more than a file may have, so that a longer one shows.
+fn room() -> [u8; FILE_MAX + 1]
+    ensures { λ r. ⌜ 2097153 ≡ length r ⌝ }
+{
+    [0; FILE_MAX + 1]
+}
+
+// Lends room for the file.
+fn bench(rounds: u64, path: &[u8]) -> usize
+    ensures { λ r. ⌜ r ≤ 9 ⌝ }
+{
+    let mut room = room();
+    run_file(rounds, path, &mut room)
+}
+
+fn main() {
+    let mut word = io::buffer();
+    let w = os::arg(1, &mut word);
+    let mut count = io::buffer();
+    let c = os::arg(2, &mut count);
+    let mut path = io::buffer();
+    let p = os::arg(3, &mut path);
+    let rounds = count_of(&count[..c]);
+    if os::arg_count() != 4 || ROUNDS_END <= rounds || !listeners::listed(b"bench\0", &word[..w]) {
+        io::write_all(STDOUT_FILENO, b"usage: bench bench ROUNDS FILE\n");
+        return;
+    }
+    bench(rounds, &path[..p]);
+}
