@@ -5,3 +5,4 @@ pub mod Orders
 pub mod Cut
 pub mod Twice
 pub mod Sanity
+pub mod Starred

@@ -3,3 +3,4 @@ pub mod Runs
 pub mod Joining
 pub mod Orders
 pub mod Cut
+pub mod Starred
