@@ -1,3 +1,4 @@
+pub mod Main
 pub mod Traces
 pub mod Machine
 pub mod Joined

@@ -1,1 +1,1 @@
-// The demands, stated for a reader and proved. This crate holds theorems only: begin with specs/Main.
+// The demands, stated for a reader and proved. This crate holds theorems only: begin with proofs/Main.

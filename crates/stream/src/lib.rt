@@ -131,7 +131,16 @@ pub fn run(fd: i32, list: &[u8])
     let mut turns = u64::MAX;
     while 0 < turns {
         turns -= 1;
-        let turned = turn(fd, kept, &mut store, list, &mut buffer, have, &mut spare, &mut out);
+        let turned = turn(
+            fd,
+            kept,
+            &mut store,
+            list,
+            &mut buffer,
+            have,
+            &mut spare,
+            &mut out,
+        );
         kept = turned.kept;
         have = turned.have;
         if !turned.more {

@@ -66,13 +66,7 @@ fn step(kept: Kept, store: &mut [u8], list: &[u8], pdu: &[u8], out: &mut [u8]) -
 }
 
 // Walks through the whole records at the front of the input, while the output has room for a line.
-pub fn walk(
-    kept: Kept,
-    store: &mut [u8],
-    list: &[u8],
-    input: &[u8],
-    out: &mut [u8],
-) -> Walked
+pub fn walk(kept: Kept, store: &mut [u8], list: &[u8], input: &[u8], out: &mut [u8]) -> Walked
     ensures { λ r. ⌜ Walks (walkOver (now (list .entry)) (length (now (out .entry))) (walkOf kept (now (store .entry))) (pdus (now (input .entry)))) (now (out .entry)) r (now (store .exit)) (now (out .exit)) ⌝ }
     ensures within { λ r. ⌜ (r .taken ≤ length (now (input .entry))) × (r .laid ≤ length (now (out .entry))) ⌝ }
 {
