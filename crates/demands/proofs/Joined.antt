@@ -61,7 +61,7 @@ pub record Agrees (d : Did) (j : Joined) : Type 0 where
   pub brings : brought (toldBy d) ≡ j .brings
   pub sound : SoundView (d .view)
 
-message-part : MESSAGE-MAX ≤ PART
+pub message-part : MESSAGE-MAX ≤ PART
 unfolding PART MESSAGE-MAX
 message-part = lit≤ tt
 

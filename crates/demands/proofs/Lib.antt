@@ -6,4 +6,5 @@ pub mod Orders
 pub mod Cut
 pub mod Twice
 pub mod Sanity
+pub mod Managers
 pub mod Starred

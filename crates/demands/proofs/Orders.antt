@@ -61,6 +61,16 @@ read-caps : (list pdu : List ℕ) (version : ℕ) (charges : Charges) → readPd
 unfolding eventIn
 read-caps list pdu version charges e = caps-event list pdu version charges e
 
+-- the state that it makes
+pub ready-state : (st : State) (j : JustReady st) → st ≡ readied (stateOf emptyTable (zeros STORE)) (j .version) .state
+ready-state st j =
+    let c = j .call in
+    let empty = stateOf emptyTable (zeros STORE) in
+    let event : eventIn (c .asked) ≡ Capabilities (j .version) = ap eventIn (j .asks) ∙ read-caps (j .list) (j .pdu) (j .version) (j .charges) (j .accepted) in
+    j .then ∙ ap (λ (s : State). after s c) (begun-is (j .store) (j .size))
+    ∙ call-state empty c (calm-start .sane) ∙ ap (λ (e : Event). stepped empty e .state) event
+    ∙ ap (λ (s : Stepped). s .state) (made-ready empty (j .version) empty-unready)
+
 pub fresh : (st : State) → JustReady st → Fresh st
 unfolding readied
 fresh st j =
@@ -68,16 +78,12 @@ fresh st j =
     let empty = stateOf emptyTable (zeros STORE) in
     let event : eventIn (c .asked) ≡ Capabilities (j .version) = ap eventIn (j .asks) ∙ read-caps (j .list) (j .pdu) (j .version) (j .charges) (j .accepted) in
     let level = min (j .version) 2 in
-    let state : st ≡ readied empty (j .version) .state =
-    j .then ∙ ap (λ (s : State). after s c) (begun-is (j .store) (j .size))
-    ∙ call-state empty c (calm-start .sane) ∙ ap (λ (e : Event). stepped empty e .state) event
-    ∙ ap (λ (s : Stepped). s .state) (made-ready empty (j .version) empty-unready) in
     let good : 1 ≤ j .version = subst FineEvent event (fine-call (c .asked)) in
     let calm : Calm (readied empty (j .version) .state) = subst (λ (s : Stepped). Calm (s .state)) (made-ready empty (j .version) empty-unready) (calm-step empty calm-start (Capabilities (j .version)) good) in
-    rw state (record { level = level; running = record { calm = calm; ready = refl; level = refl }; shut = λ n. empty-shut n level (zeros STORE) })
+    rw (ready-state st j) (record { level = level; running = record { calm = calm; ready = refl; level = refl }; shut = λ n. empty-shut n level (zeros STORE) })
 
 -- the blocks of a channel's own events
-fine-events : (n : ℕ) (xs : List Call) → AllFine (ownEvents n xs)
+pub fine-events : (n : ℕ) (xs : List Call) → AllFine (ownEvents n xs)
 unfolding ownEvents
 fine-events n [] = tt
 fine-events n (c ∷ xs) = go (isEventOf n c) (fine-events n xs)
@@ -114,12 +120,15 @@ module _ (l : ℕ) (st : State) (g : Running l st) (n : ℕ) where
   unfolding ownEvents
   plain-inputs xs f = never-flagged readCall after meetsFull (isEventOf n) st xs f
 
-  -- what a channel that is not open is told brings what its own events bring, alone
-  pub joins-alone : view n st ≡ Shut → (xs : List Call) → NeverFull st xs → map brought (toldTo n st xs) ≡ joinAll Off (ownEvents n xs)
+  -- what a channel that is not open is told, by its own events alone
+  pub told-alone : view n st ≡ Shut → (xs : List Call) → NeverFull st xs → toldTo n st xs ≡ aloneOuts (chanNext l) (chanOut l) Shut (map plain (ownEvents n xs))
   unfolding toldTo
-  joins-alone v xs f =
-      ap (map brought) (trace-outs (framed l n) st xs g ∙ ap (aloneOuts (chanNext l) (chanOut l) (view n st)) (plain-inputs xs f) ∙ ap (λ (w : View). aloneOuts (chanNext l) (chanOut l) w (map plain (ownEvents n xs))) v)
-      ∙ run-joins l Shut (ownEvents n xs) (fine-events n xs) tt
+  told-alone v xs f =
+      trace-outs (framed l n) st xs g ∙ ap (aloneOuts (chanNext l) (chanOut l) (view n st)) (plain-inputs xs f) ∙ ap (λ (w : View). aloneOuts (chanNext l) (chanOut l) w (map plain (ownEvents n xs))) v
+
+  -- it brings what its own events bring, alone
+  pub joins-alone : view n st ≡ Shut → (xs : List Call) → NeverFull st xs → map brought (toldTo n st xs) ≡ joinAll Off (ownEvents n xs)
+  joins-alone v xs f = ap (map brought) (told-alone v xs f) ∙ run-joins l Shut (ownEvents n xs) (fine-events n xs) tt
 
 -- ---- demand 3
 

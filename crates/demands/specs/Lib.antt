@@ -3,4 +3,5 @@ pub mod Runs
 pub mod Joining
 pub mod Orders
 pub mod Cut
+pub mod Managers
 pub mod Starred
