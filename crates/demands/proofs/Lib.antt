@@ -7,4 +7,5 @@ pub mod Cut
 pub mod Twice
 pub mod Sanity
 pub mod Managers
+pub mod Useless
 pub mod Starred

@@ -4,4 +4,5 @@ pub mod Joining
 pub mod Orders
 pub mod Cut
 pub mod Managers
+pub mod Useless
 pub mod Starred
