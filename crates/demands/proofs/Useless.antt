@@ -7,6 +7,7 @@ use mathlib.Core.List.{List, [], _∷_, map}
 use native.Mathlib.Omega.{arith}
 use lib.Dec.{lit≤}
 use Rattle.paper.specs.Sizes.{PDU-MAX, MESSAGE-MAX, LIST-MAX, PARTS, REPLY-MIN}
+use Rattle.paper.specs.declared.Refusal.{Refusal}
 use Rattle.lists.specs.Bytes.{zeros}
 use Rattle.lists.specs.Places.{place}
 use Rattle.lists.proofs.Cases.{true-not-false}
@@ -27,7 +28,7 @@ use Rattle.demands.specs.Trace.{consIf, keep, seen, Never}
 use Rattle.demands.specs.Runs.{Asked, Pdu, Call, Told, eventIn, isOf, isEventOf, ownEvents, fullTable, asksRoom, eventMeetsFull, meetsFull}
 use Rattle.demands.specs.Joining.{Off, Brings, Nothing, StillToCome, Whole, gathered, startsWith, goesOn, joins, joinAll, broughtBy, brought}
 use Rattle.demands.specs.Managers.{Manager, tellsTo, paperBegin, paperNext, Roomy, whyNot, answered, stepSays, once, handed, Joins, Demand2Of, Demand3Of}
-use Rattle.demands.specs.Useless.{isNo, OnlyNo, Always, handsUp, tellsBy, nextBy, managerBy, allOff, rightNext, rightTold, blankTold, storeless, onceNext, onceTold, firstOnly, recountTold, invents, doubleTold, twice, keptNext, keeps, lost, disturbs, put}
+use Rattle.demands.specs.Useless.{isNo, OnlyNo, refusesAll, Always, fixed, handsUp, tellsBy, nextBy, managerBy, allOff, rightNext, actTold, rightTold, blankTold, storeless, onceNext, onceTold, firstOnly, recountTold, invents, doubleTold, twice, keptNext, keeps, lost, disturbs, put}
 use Rattle.demands.proofs.Machine.{readCall}
 
 -- ---- the run
@@ -191,6 +192,14 @@ only-no-not-2 m h d = only-no m h (from-2 m d)
 pub only-no-not-3 : {S : Type 0} (m : Manager S) → OnlyNo m → Demand3Of m → ⊥
 only-no-not-3 m h d = only-no m h (from-3 m d)
 
+pub refusesAll-not-2 : (why : Refusal) → Demand2Of (refusesAll why) → ⊥
+unfolding refusesAll
+refusesAll-not-2 why d = only-no-not-2 (refusesAll why) (λ s c. refl) d
+
+pub refusesAll-not-3 : (why : Refusal) → Demand3Of (refusesAll why) → ⊥
+unfolding refusesAll
+refusesAll-not-3 why d = only-no-not-3 (refusesAll why) (λ s c. refl) d
+
 -- one answer brings a count or a message, not both
 not-both : (a : Answer) (u v : List (List ℕ)) → kind (broughtBy a u) ≡ 1 → kind (broughtBy a v) ≡ 2 → ⊥
 unfolding broughtBy
@@ -221,6 +230,14 @@ always-not-2 m a h d = always m a h (from-2 m d)
 pub always-not-3 : {S : Type 0} (m : Manager S) (a : Answer) → Always m a → Demand3Of m → ⊥
 always-not-3 m a h d = always m a h (from-3 m d)
 
+pub fixed-not-2 : (t : Told) → Demand2Of (fixed t) → ⊥
+unfolding fixed
+fixed-not-2 t d = always-not-2 (fixed t) (t .answer) (λ s c. refl) d
+
+pub fixed-not-3 : (t : Told) → Demand3Of (fixed t) → ⊥
+unfolding fixed
+fixed-not-3 t d = always-not-3 (fixed t) (t .answer) (λ s c. refl) d
+
 -- ---- managers by what they do with a channel's event: what they tell in the run
 
 by-events : {S : Type 0} (s : S) (next : S → ℕ → Act → S) (tells : S → ℕ → Act → Told) (n : ℕ) (xs : List Call) → tellsTo (managerBy s next tells) n xs ≡ seen (nextBy next) (isOf n) (tellsBy tells) s (map readCall xs)
@@ -237,7 +254,7 @@ should s next tells j = ap (map brought) (sym (in-run s next tells)) ∙ j .join
 
 -- 3: it never stores
 wrong-storeless : Joins storeless run 5 → ⊥
-unfolding storeless zeros happened brings-5 nextBy tellsBy rightNext rightTold handsUp stepSays answered whyNot joins startsWith goesOn gathered broughtBy MESSAGE-MAX
+unfolding storeless zeros happened brings-5 nextBy tellsBy rightNext rightTold actTold handsUp stepSays answered whyNot joins startsWith goesOn gathered broughtBy MESSAGE-MAX
 wrong-storeless j =
     let e = should allOff rightNext (λ s n a. blankTold (rightTold s n a)) j in
     let z : _≡_ {A = ℕ} 0 15 = ap (λ (bs : List Brings). weight (nth 1 bs)) e in
@@ -251,7 +268,7 @@ storeless-not-3 d = wrong-storeless (from-3 storeless d)
 
 -- 4: it joins the first message properly, and later only reports lengths: the second is wrong
 wrong-firstOnly : Joins firstOnly run 5 → ⊥
-unfolding firstOnly onceNext onceTold zeros happened brings-5 nextBy tellsBy rightNext rightTold handsUp stepSays answered whyNot joins startsWith goesOn gathered broughtBy MESSAGE-MAX
+unfolding firstOnly onceNext onceTold zeros happened brings-5 nextBy tellsBy rightNext rightTold actTold handsUp stepSays answered whyNot joins startsWith goesOn gathered broughtBy MESSAGE-MAX
 wrong-firstOnly j =
     let e = should (record { stand = allOff; had = false }) onceNext onceTold j in
     let z : _≡_ {A = ℕ} 0 6 = ap (λ (bs : List Brings). weight (nth 3 bs)) e in
@@ -265,7 +282,7 @@ firstOnly-not-3 d = wrong-firstOnly (from-3 firstOnly d)
 
 -- 5: its count still to come is invented, whatever it is
 wrong-invents : (count : ℕ) → Joins (invents count) run 5 → ⊥
-unfolding invents happened brings-5 nextBy tellsBy rightNext rightTold handsUp stepSays answered whyNot joins startsWith goesOn gathered broughtBy MESSAGE-MAX
+unfolding invents happened brings-5 nextBy tellsBy rightNext rightTold actTold handsUp stepSays answered whyNot joins startsWith goesOn gathered broughtBy MESSAGE-MAX
 wrong-invents count j =
     let e = should allOff rightNext (λ s n a. recountTold count (rightTold s n a)) j in
     let y : count ≡ 2 = ap (λ (bs : List Brings). weight (nth 2 bs)) e in
@@ -280,7 +297,7 @@ invents-not-3 count d = wrong-invents count (from-3 (invents count) d)
 
 -- 6: it hands each message up twice
 wrong-twice : Joins twice run 5 → ⊥
-unfolding twice once happened brings-5 nextBy tellsBy rightNext rightTold handsUp stepSays answered whyNot joins startsWith goesOn gathered broughtBy MESSAGE-MAX
+unfolding twice once happened brings-5 nextBy tellsBy rightNext rightTold actTold handsUp stepSays answered whyNot joins startsWith goesOn gathered broughtBy MESSAGE-MAX
 wrong-twice j =
     let e = ap (map handed) (sym (in-run allOff rightNext (λ s n a. doubleTold (rightTold s n a)))) ∙ j .each-once ∙ ap (map once) run-brings in
     let z : _≡_ {A = ℕ} 6 3 = ap sum e in
@@ -294,7 +311,7 @@ twice-not-3 d = wrong-twice (from-3 twice d)
 
 -- 7: it keeps a channel's part over a reopening
 wrong-keeps : Joins keeps run 5 → ⊥
-unfolding keeps keptNext happened brings-5 nextBy tellsBy rightNext rightTold handsUp stepSays answered whyNot joins startsWith goesOn gathered broughtBy MESSAGE-MAX
+unfolding keeps keptNext happened brings-5 nextBy tellsBy rightNext rightTold actTold handsUp stepSays answered whyNot joins startsWith goesOn gathered broughtBy MESSAGE-MAX
 wrong-keeps j =
     let e = should (record { stand = allOff; left = allOff }) keptNext (λ s n a. rightTold (s .stand) n a) j in
     let z : _≡_ {A = ℕ} 10 9 = ap (λ (bs : List Brings). weight (nth 7 bs)) e in
@@ -308,7 +325,7 @@ keeps-not-3 d = wrong-keeps (from-3 keeps d)
 
 -- 8: an event of one channel changes another's stage
 wrong-disturbs : Joins disturbs run 5 → ⊥
-unfolding disturbs happened brings-5 nextBy tellsBy rightNext rightTold handsUp stepSays answered whyNot joins startsWith goesOn gathered broughtBy MESSAGE-MAX
+unfolding disturbs happened brings-5 nextBy tellsBy rightNext rightTold actTold handsUp stepSays answered whyNot joins startsWith goesOn gathered broughtBy MESSAGE-MAX
 wrong-disturbs j =
     let e = should allOff (λ s n a. put n (joins (s n) a .join) (λ m. lost (s m))) rightTold j in
     let z : _≡_ {A = ℕ} 5 6 = ap (λ (bs : List Brings). weight (nth 3 bs)) e in

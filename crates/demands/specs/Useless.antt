@@ -1,11 +1,12 @@
--- Managers that are of no use, as values of the record: the paper's five, and three more. All but the first two do everything as the
--- joining does, with one thing wrong.
+-- Managers that are of no use, as values of the record: the paper's five, and three more. All but the first two are a manager that
+-- follows the joining of each number and has both demands, with one thing made wrong.
 use Prim.Native.Nat.{ℕ}
 use mathlib.Core.Path.{_≡_}
 use mathlib.Core.Bool.{Bool, true, false, cond}
 use mathlib.Core.List.{List, [], _∷_}
 use lib.Dec.{eqb}
 use lib.ListN.{length}
+use Rattle.paper.specs.declared.Refusal.{Refusal}
 use Rattle.paper.specs.declared.Refusal.the-variants.{WrongTime}
 use Rattle.lists.specs.Bytes.{zeros}
 use Rattle.channel.specs.declared.Concern.the-variants.{NoChannel}
@@ -33,11 +34,17 @@ isNo (Refused why concern) = true
 abbrev pub OnlyNo : {S : Type 0} → Manager S → Type 0
 OnlyNo {S} m = (s : S) (c : Call) → isNo (m .tells s c .answer) ≡ true
 
+unfoldable pub refusesAll : Refusal → Manager (Unit {0})
+refusesAll why = record { version = 2; begin = tt; next = λ s c. s; tells = λ s c. record { answer = Refused why NoChannel; reply = []; message = [] } }
+
 -- ---- 2: it gives one fixed answer
 
 -- any manager whose answer is always this one, whatever it replies and hands up
 abbrev pub Always : {S : Type 0} → Manager S → Answer → Type 0
 Always {S} m a = (s : S) (c : Call) → m .tells s c .answer ≡ a
+
+unfoldable pub fixed : Told → Manager (Unit {0})
+fixed t = record { version = 2; begin = tt; next = λ s c. s; tells = λ s c. t }
 
 -- ---- managers that follow the joining of each number
 
@@ -78,8 +85,11 @@ allOff = λ n. Off
 unfoldable pub rightNext : Stand → ℕ → Act → Stand
 rightNext s n a = put n (joins (s n) a .join) s
 
+unfoldable pub actTold : ℕ → Join → Act → Told
+actTold n j a = record { answer = stepSays n j a .answer; reply = stepSays n j a .reply; message = handsUp (joins j a .brings) }
+
 unfoldable pub rightTold : Stand → ℕ → Act → Told
-rightTold s n a = record { answer = stepSays n (s n) a .answer; reply = stepSays n (s n) a .reply; message = handsUp (joins (s n) a .brings) }
+rightTold s n a = actTold n (s n) a
 
 unfoldable pub useful : Manager Stand
 useful = managerBy allOff rightNext rightTold
