@@ -8,4 +8,5 @@ pub mod Twice
 pub mod Sanity
 pub mod Managers
 pub mod Useless
+pub mod Useful
 pub mod Starred

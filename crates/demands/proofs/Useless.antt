@@ -80,7 +80,7 @@ read-run = refl
 brings-5 : List Brings
 brings-5 = Nothing ∷ Whole (7 ∷ 8 ∷ []) ∷ StillToCome 2 ∷ Whole (1 ∷ 2 ∷ 3 ∷ []) ∷ StillToCome 3 ∷ Nothing ∷ Nothing ∷ Whole (2 ∷ 3 ∷ 4 ∷ []) ∷ []
 
-own-map : (n : ℕ) (xs : List Call) → ownEvents n xs ≡ keep (isOf n) (map readCall xs)
+pub own-map : (n : ℕ) (xs : List Call) → ownEvents n xs ≡ keep (isOf n) (map readCall xs)
 unfolding ownEvents isEventOf
 own-map n [] = refl
 own-map n (c ∷ xs) = go (isOf n (readCall c)) (own-map n xs)
@@ -240,7 +240,7 @@ fixed-not-3 t d = always-not-3 (fixed t) (t .answer) (λ s c. refl) d
 
 -- ---- managers by what they do with a channel's event: what they tell in the run
 
-by-events : {S : Type 0} (s : S) (next : S → ℕ → Act → S) (tells : S → ℕ → Act → Told) (n : ℕ) (xs : List Call) → tellsTo (managerBy s next tells) n xs ≡ seen (nextBy next) (isOf n) (tellsBy tells) s (map readCall xs)
+pub by-events : {S : Type 0} (s : S) (next : S → ℕ → Act → S) (tells : S → ℕ → Act → Told) (n : ℕ) (xs : List Call) → tellsTo (managerBy s next tells) n xs ≡ seen (nextBy next) (isOf n) (tellsBy tells) s (map readCall xs)
 unfolding tellsTo managerBy isEventOf
 by-events s next tells n [] = refl
 by-events s next tells n (c ∷ xs) = ap (consIf (isOf n (readCall c)) (tellsBy tells s (readCall c))) (by-events (nextBy next s (readCall c)) next tells n xs)
