@@ -19,9 +19,9 @@ pub enum Stage {
 
 // A channel's record. A free one is not taken, and is as Start made it: number 0, class 0, idle.
 pub struct Record {
-    pub taken: bool,
     pub number: u32,
     pub class: u8,
+    pub taken: bool,
     pub stage: Stage,
 }
 

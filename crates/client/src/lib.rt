@@ -13,6 +13,7 @@ use channel::Took;
 use paper::PARTS;
 use paper::Refusal;
 use reading::Pdu;
+use reading::Place;
 use table::Table;
 ghost use mathlib.Core.Path.{_≡_};
 ghost use mathlib.Core.List.{List};
@@ -28,7 +29,7 @@ ghost use Rattle.channel.specs.Channel.{Open, restaged, landed, classAt, opened
 ghost use Rattle.table.specs.Table.{numberPlace, recordAt, withRecord};
 ghost use Rattle.store.specs.Parts.{part};
 ghost use Rattle.client.specs.State.{stateOf};
-ghost use Rattle.client.specs.Events.{Capabilities, Of, createAct, closeAct, eventOf};
+ghost use Rattle.client.specs.Events.{Capabilities, Of, createAct, closeAct, carriedBy, eventOf};
 ghost use Rattle.client.specs.Client.{Gives, finished, stepped, badCall, received, locallyClosed, started, storeStarted};
 
 // Whether Start did its work.
@@ -276,19 +277,75 @@ fn on_close(table: Table, store: &mut [u8], number: u32, local: bool, reply: &mu
     }
 }
 
-// A received PDU: what reading finds in it goes to the function for its kind.
+// What a PDU from the server carries. Data First and Data differ in what they offer, and go one way from here.
+enum Cargo {
+    Nothing(Refusal),
+    Version(u16),
+    Name {
+        number: u32,
+        class: u8,
+        name: Place,
+    },
+    Block {
+        number: u32,
+        offer: Offer,
+        block: Place,
+    },
+    End(u32),
+}
+
+// What a PDU carries, by its kind. Responses are never read in a PDU from the server.
+fn carried(read: Pdu) -> Cargo
+    ensures { λ r. ⌜ r ≡ carriedBy read ⌝ }
+{
+    match read {
+        Pdu::Refused(why) => Cargo::Nothing(why),
+        Pdu::CapsRequest {
+            version,
+            charges: _,
+        } => Cargo::Version(version),
+        Pdu::CreateRequest {
+            number,
+            class,
+            name,
+        } => Cargo::Name {
+            number,
+            class,
+            name,
+        },
+        Pdu::DataFirst {
+            number,
+            length,
+            block,
+        } => Cargo::Block {
+            number,
+            offer: Offer::First(length),
+            block,
+        },
+        Pdu::Data { number, block } => Cargo::Block {
+            number,
+            offer: Offer::More,
+            block,
+        },
+        Pdu::Close { number } => Cargo::End(number),
+        Pdu::CreateResponse {
+            number: _,
+            status: _,
+        } => Cargo::Nothing(Refusal::WrongTime),
+        Pdu::CapsResponse { version: _ } => Cargo::Nothing(Refusal::WrongTime),
+    }
+}
+
+// A received PDU: what it carries goes to the function for it.
 fn on_pdu(table: Table, store: &mut [u8], list: &[u8], pdu: &[u8], reply: &mut [u8]) -> Received
     requires { ⌜ length (now store) ≡ STORE ⌝ }
     ensures { λ r. ⌜ Gives (stepped (stateOf table (now (store .entry))) (eventOf (now (list .entry)) (now (pdu .entry)) (readPdu true (now (pdu .entry))))) (now (reply .entry)) r (now (store .exit)) (now (reply .exit)) ⌝ }
 {
-    let read = reading::read(pdu, true);
-    match read {
-        Pdu::Refused(why) => refused(table, why, Concern::NoChannel),
-        Pdu::CapsRequest {
-            version,
-            charges: _,
-        } => on_capabilities(table, version, reply),
-        Pdu::CreateRequest {
+    let cargo = carried(reading::read(pdu, true));
+    match cargo {
+        Cargo::Nothing(why) => refused(table, why, Concern::NoChannel),
+        Cargo::Version(version) => on_capabilities(table, version, reply),
+        Cargo::Name {
             number,
             class,
             name,
@@ -297,27 +354,16 @@ fn on_pdu(table: Table, store: &mut [u8], list: &[u8], pdu: &[u8], reply: &mut [
             let end = at + name.len;
             on_create(table, list, number, class, &pdu[at..end], reply)
         }
-        Pdu::DataFirst {
+        Cargo::Block {
             number,
-            length,
+            offer,
             block,
         } => {
             let at = block.at;
             let end = at + block.len;
-            on_data(table, store, number, Offer::First(length), &pdu[at..end])
+            on_data(table, store, number, offer, &pdu[at..end])
         }
-        Pdu::Data { number, block } => {
-            let at = block.at;
-            let end = at + block.len;
-            on_data(table, store, number, Offer::More, &pdu[at..end])
-        }
-        Pdu::Close { number } => on_close(table, store, number, false, reply),
-        // Responses are never read in a PDU from the server.
-        Pdu::CreateResponse {
-            number: _,
-            status: _,
-        } => refused(table, Refusal::WrongTime, Concern::NoChannel),
-        Pdu::CapsResponse { version: _ } => refused(table, Refusal::WrongTime, Concern::NoChannel),
+        Cargo::End(number) => on_close(table, store, number, false, reply),
     }
 }
 
