@@ -38,8 +38,10 @@ use Rattle.demands.specs.Cut.{cutAll, eventOfPdu, HandedUpOnce}
 use Rattle.demands.proofs.Machine.{Running}
 use Rattle.demands.proofs.Orders as orders
 use Rattle.demands.proofs.Cut as cut
+use Rattle.demands.specs.Managers.{ours, Demand2Of, Demand3Of}
 use Rattle.demands.specs.Starred.{Starred}
 use Rattle.demands.proofs.Twice as twice
+use Rattle.demands.proofs.Managers as managers
 use Rattle.demands.proofs.Starred as stars
 
 -- ---- Demand 1. Bad input gets its refusal; a refusal writes nothing and changes no channel, but that three spoil one
@@ -98,6 +100,14 @@ nothing-twice = twice.nothing-twice
 
 pub never-refusal-1 : (st : State) → JustReady st → (xs : List Call) (c : Call) → badCall (ends st xs .table) (length (ends st xs .store)) (length (c .reply)) ≡ false
 never-refusal-1 = twice.never-refusal-1
+
+-- ---- Demands 2 and 3 as properties of any manager: ours has them. proofs/Useless shows eight that don't
+
+pub demand-2-of-ours : (st : State) (j : JustReady st) → Demand2Of (ours st j)
+demand-2-of-ours = managers.ours-demand-2
+
+pub demand-3-of-ours : (st : State) (j : JustReady st) → Demand3Of (ours st j)
+demand-3-of-ours = managers.ours-demand-3
 
 -- ---- The thirteen starred numbers, one statement over one list
 
