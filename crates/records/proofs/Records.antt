@@ -1,15 +1,14 @@
 -- The laws of records.
 -- Assumes nothing.
-use mathlib.Core.Path.{_≡_, refl, sym, _∙_}
-use mathlib.Core.Bool.{Bool, true, false, cond}
+use mathlib.Core.Path.{_≡_, refl, sym, ap, _∙_}
 use mathlib.Core.Logic.{⊎-elim}
-use mathlib.Core.List.{List, [], _∷_}
+use mathlib.Core.List.{List, [], _∷_, _++_}
 use Prim.Native.Nat.{ℕ, zero, suc, _+_, _-_, _≤_, _<_}
 use native.Mathlib.Omega.{arith}
-use borrow.Author.Tests.{ltb-true, ltb-false, eq-eqb, ne-eqb}
-use lib.Dec.{ltb, eqb}
-use lib.ListN.{length, take, drop, length-take, length-drop}
-use lib.Seq.{length-take-le, drop-drop, take-nil}
+use borrow.Author.Tests.{ltb-false, le-ltb, eq-eqb, ne-eqb}
+use lib.Dec.{ltb}
+use lib.ListN.{length, take, drop, length-drop, length-append}
+use lib.Seq.{length-take-le, drop-drop, take-nil, take-append-le}
 use Rattle.lists.proofs.Cases.{choice, lt-or-le}
 use Rattle.records.specs.Records.{LENGTH, announced, wholeOf, pduOf, pdusIn, pdus}
 
@@ -81,3 +80,32 @@ pdus-first input h =
     pdus-any (length input) (suc (length input)) input (omega arith) (omega arith)
     ∙ one-more (length input) input h
     ∙ rw (pdus-any (length input) (length rest) rest (rw length-drop (omega arith)) (omega arith))
+
+-- ---- more bytes behind
+
+announced-more : (input more : List ℕ) → LENGTH ≤ length input → announced (input ++ more) ≡ announced input
+unfolding announced
+announced-more input more h = rw (take-append-le LENGTH input more h)
+
+whole-is : (input : List ℕ) → 0 < wholeOf input → (LENGTH + announced input ≤ length input) × (wholeOf input ≡ LENGTH + announced input)
+unfolding wholeOf
+whole-is input =
+    let Is : ℕ → Type 0 = λ n. 0 < n → (LENGTH + announced input ≤ length input) × (n ≡ LENGTH + announced input) in
+    choice Is (ltb (length input) LENGTH) (λ h k. absurd (omega arith))
+    (λ h. choice Is (ltb (length input) (LENGTH + announced input)) (λ g k. absurd (omega arith)) (λ g k. (ltb-false _ _ g, refl)))
+
+whole-there : (input : List ℕ) → LENGTH + announced input ≤ length input → wholeOf input ≡ LENGTH + announced input
+unfolding wholeOf
+whole-there input h = rw (le-ltb (length input) LENGTH (omega arith), le-ltb (length input) (LENGTH + announced input) h)
+
+-- more bytes behind a whole record leave it as it is
+pub whole-more : (input more : List ℕ) → 0 < wholeOf input → wholeOf (input ++ more) ≡ wholeOf input
+whole-more input more some =
+    let is = whole-is input some in
+    let same = announced-more input more (omega arith) in
+    let there : LENGTH + announced (input ++ more) ≤ length (input ++ more) = rw (same, length-append) (omega arith) in
+    whole-there (input ++ more) there ∙ ap (λ (n : ℕ). LENGTH + n) same ∙ sym (is .1)
+
+pub pdu-more : (input more : List ℕ) → 0 < wholeOf input → pduOf (input ++ more) ≡ pduOf input
+unfolding pduOf
+pdu-more input more some = rw (whole-more input more some, take-append-le (wholeOf input) input more (whole-fits input .0))

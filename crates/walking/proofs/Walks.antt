@@ -1,9 +1,8 @@
 -- The laws of a walk: what is left of it at each turn, and where it ends.
 -- Assumes nothing.
-use mathlib.Core.Path.{_≡_, refl, sym, ap, _∙_}
-use mathlib.Core.List.{List, [], _∷_, _++_}
-use Prim.Native.Nat.{ℕ, zero, suc, _+_, _-_, _≤_, _<_}
-use native.Mathlib.Nat.{sub-zero}
+use mathlib.Core.Path.{_≡_, refl, ap, _∙_}
+use mathlib.Core.List.{List, [], _∷_}
+use Prim.Native.Nat.{ℕ, _+_, _-_, _≤_, _<_}
 use native.Mathlib.Omega.{arith}
 use borrow.Author.Tests.{lt-ltb, le-ltb}
 use lib.ListN.{length, drop, length-append, length-drop}
@@ -11,10 +10,9 @@ use lib.Seq.{drop-drop}
 use Rattle.lists.specs.Bytes.{laid}
 use Rattle.lists.proofs.Laid.{laid-behind, length-laid}
 use Rattle.lines.specs.Lines.{LINE-MAX}
-use Rattle.records.specs.Records.{LENGTH, wholeOf, pduOf, pdus}
+use Rattle.records.specs.Records.{wholeOf, pduOf, pdus}
 use Rattle.records.proofs.Records.{whole-fits, length-pdu, pdus-none, pdus-first}
 use Rattle.walking.specs.declared.Kept.{Kept}
-use Rattle.walking.specs.declared.Walked.{Walked}
 use Rattle.walking.specs.Walking.{Walk, walkOf, keptOf, Went, stay, onward, afterPdu, lineFor, walkOver, Walks}
 
 -- the walk through the records from a place of the input on, with what is used of the room gone

@@ -70,3 +70,8 @@ pub record Walks (went : Went) (out : List ℕ) (r : Walked) (storeAfter outAfte
   pub length-laid : Path ℕ (r .laid) (length (went .text))
   pub stored : Path (List ℕ) storeAfter (went .walk .store)
   pub lines : Path (List ℕ) outAfter (laid out 0 (went .text))
+
+-- all the lines of a walk through PDUs
+unfoldable pub allLines : List ℕ → Walk → List (List ℕ) → List ℕ
+allLines list w [] = []
+allLines list w (pdu ∷ pdus) = lineFor list w pdu ++ allLines list (afterPdu list w pdu) pdus

@@ -1,5 +1,4 @@
 -- `lines::cut_line` meets its contract: the word is laid behind the place.
-use mathlib.Core.List.{List, [], _∷_, _++_}
 use denote.Ref.{now}
 use Rattle.lists.proofs.Laid.{laid-next}
 use Rattle.lines.specs.Decimal.{field}

@@ -1,5 +1,5 @@
 -- `lines::line` meets its contract: each field is laid behind the one before.
-use mathlib.Core.List.{List, _++_}
+use mathlib.Core.List.{_++_}
 use denote.Ref.{now}
 use Rattle.channel.specs.Answers.{wordOf, concernOf, numberOf}
 use Rattle.lists.proofs.Laid.{laid-next}

@@ -1,5 +1,5 @@
 -- `lines::number` meets its contract: the scratch from the field's start on is the field.
-use mathlib.Core.Path.{_≡_, sym, ap, _∙_}
+use mathlib.Core.Path.{_≡_, ap, _∙_}
 use Prim.Native.Nat.{_-_}
 use denote.Ref.{now}
 use lib.ListN.{length, length-drop}

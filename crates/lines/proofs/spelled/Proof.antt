@@ -2,8 +2,8 @@
 -- whole field; what is left fits the places in front.
 use mathlib.Core.Path.{_≡_, refl, sym, _∙_}
 use mathlib.Core.List.{_++_, [], _∷_, append-assoc}
-use Prim.Native.Nat.{ℕ, _+_, _-_, _^_, _≤_, _<_, _/_, _%_}
-use lib.ListN.{length, drop, set, length-set}
+use Prim.Native.Nat.{_+_, _-_, _^_, _≤_, _<_, _/_, _%_}
+use lib.ListN.{length, drop, length-set}
 use Rattle.lines.specs.Decimal.{digit, decimal, field}
 use Rattle.lines.proofs.Decimal.{decimal-one, decimal-more, tenth, drop-set}
 use native.Mathlib.Omega.{arith}

@@ -2,7 +2,7 @@
 -- and lays its line behind the lines before.
 use mathlib.Core.Path.{_≡_, refl, ap, _∙_}
 use denote.Ref.{now}
-use Prim.Native.Nat.{_-_, _+_, _≤_}
+use Prim.Native.Nat.{_-_}
 use lib.ListN.{length, drop, length-drop}
 use Rattle.lists.proofs.Laid.{to-end, back-end}
 use Rattle.records.specs.Records.{wholeOf, pdus}

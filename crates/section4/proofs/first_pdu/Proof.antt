@@ -1,0 +1,27 @@
+-- `section4::first_pdu` meets its contract: its head stands over the front of 1,600 bytes 71.
+use mathlib.Core.Path.{refl}
+use Rattle.section4.specs.Checks.{many}
+use borrow.Author.Needs.{needs}
+use Rattle.section4.proofs.first_pdu.Statement.{statement}
+use Rattle.section4.proofs.first_pdu.Tie as tie
+
+array-write-pdu : tie.Need-array-write-pdu
+array-write-pdu c = search needs
+
+array-write-pdu-2 : tie.Need-array-write-pdu-2
+array-write-pdu-2 c = search needs
+
+array-write-pdu-3 : tie.Need-array-write-pdu-3
+array-write-pdu-3 c = search needs
+
+array-write-pdu-4 : tie.Need-array-write-pdu-4
+array-write-pdu-4 c = search needs
+
+returns : tie.Need-returns
+unfolding many
+returns c = refl
+
+pub first-pdu-spec : {M : Type 1} → statement M
+first-pdu-spec =
+    tie.close
+    (tie.spec array-write-pdu array-write-pdu-2 array-write-pdu-3 array-write-pdu-4 returns)

@@ -1,0 +1,90 @@
+-- `section4::lengths` meets its contract: it makes three checks.
+use mathlib.Core.Path.{refl}
+use borrow.Author.Needs.{needs}
+use Rattle.section4.proofs.lengths.Statement.{statement}
+use Rattle.section4.proofs.lengths.Tie as tie
+
+slice-aggregate-step : tie.Need-slice-aggregate-step
+slice-aggregate-step c = refl
+
+slice-aggregate-step-2 : tie.Need-slice-aggregate-step-2
+slice-aggregate-step-2 c = refl
+
+slice-aggregate-step-3 : tie.Need-slice-aggregate-step-3
+slice-aggregate-step-3 c = refl
+
+slice-aggregate-step-4 : tie.Need-slice-aggregate-step-4
+slice-aggregate-step-4 c = refl
+
+slice-aggregate-step-5 : tie.Need-slice-aggregate-step-5
+slice-aggregate-step-5 c = refl
+
+step-requires : tie.Need-step-requires
+step-requires c κs = tt
+
+slice-aggregate-step-6 : tie.Need-slice-aggregate-step-6
+slice-aggregate-step-6 c = refl
+
+slice-aggregate-step-7 : tie.Need-slice-aggregate-step-7
+slice-aggregate-step-7 c = refl
+
+slice-aggregate-step-8 : tie.Need-slice-aggregate-step-8
+slice-aggregate-step-8 c = refl
+
+slice-aggregate-step-9 : tie.Need-slice-aggregate-step-9
+slice-aggregate-step-9 c = refl
+
+slice-aggregate-step-10 : tie.Need-slice-aggregate-step-10
+slice-aggregate-step-10 c = refl
+
+step-requires-2 : tie.Need-step-requires-2
+step-requires-2 c κs = tt
+
+slice-aggregate-step-11 : tie.Need-slice-aggregate-step-11
+slice-aggregate-step-11 c = refl
+
+slice-aggregate-step-12 : tie.Need-slice-aggregate-step-12
+slice-aggregate-step-12 c = refl
+
+slice-aggregate-step-13 : tie.Need-slice-aggregate-step-13
+slice-aggregate-step-13 c = refl
+
+slice-aggregate-step-14 : tie.Need-slice-aggregate-step-14
+slice-aggregate-step-14 c = refl
+
+slice-aggregate-step-15 : tie.Need-slice-aggregate-step-15
+slice-aggregate-step-15 c = refl
+
+step-requires-3 : tie.Need-step-requires-3
+step-requires-3 c κs = tt
+
+same-length : tie.Need-same-length
+same-length c = search needs
+
+returns : tie.Need-returns
+returns c = search needs
+
+pub lengths-spec : {M : Type 1} → statement M
+lengths-spec =
+    tie.close
+    (tie.spec
+    slice-aggregate-step
+    slice-aggregate-step-2
+    slice-aggregate-step-3
+    slice-aggregate-step-4
+    slice-aggregate-step-5
+    step-requires
+    slice-aggregate-step-6
+    slice-aggregate-step-7
+    slice-aggregate-step-8
+    slice-aggregate-step-9
+    slice-aggregate-step-10
+    step-requires-2
+    slice-aggregate-step-11
+    slice-aggregate-step-12
+    slice-aggregate-step-13
+    slice-aggregate-step-14
+    slice-aggregate-step-15
+    step-requires-3
+    same-length
+    returns)

@@ -1,0 +1,95 @@
+-- `section4::two_opened` meets its contract: it makes three checks.
+use mathlib.Core.Path.{refl, _∙_}
+use borrow.Author.Needs.{needs}
+use Rattle.section4.proofs.two_opened.Statement.{statement}
+use Rattle.section4.proofs.two_opened.Tie as tie
+
+start-requires : tie.Need-start-requires
+start-requires c κs = tt
+
+slice-aggregate-step : tie.Need-slice-aggregate-step
+slice-aggregate-step c = refl
+
+slice-aggregate-step-2 : tie.Need-slice-aggregate-step-2
+slice-aggregate-step-2 c = refl
+
+slice-aggregate-step-3 : tie.Need-slice-aggregate-step-3
+slice-aggregate-step-3 c = refl
+
+slice-aggregate-step-4 : tie.Need-slice-aggregate-step-4
+slice-aggregate-step-4 c = refl
+
+slice-aggregate-step-5 : tie.Need-slice-aggregate-step-5
+slice-aggregate-step-5 c = refl
+
+step-requires : tie.Need-step-requires
+step-requires c κs = tt
+
+slice-aggregate-step-6 : tie.Need-slice-aggregate-step-6
+slice-aggregate-step-6 c = refl
+
+slice-aggregate-step-7 : tie.Need-slice-aggregate-step-7
+slice-aggregate-step-7 c = refl
+
+slice-aggregate-step-8 : tie.Need-slice-aggregate-step-8
+slice-aggregate-step-8 c = refl
+
+slice-aggregate-step-9 : tie.Need-slice-aggregate-step-9
+slice-aggregate-step-9 c = refl
+
+slice-aggregate-step-10 : tie.Need-slice-aggregate-step-10
+slice-aggregate-step-10 c = refl
+
+step-requires-2 : tie.Need-step-requires-2
+step-requires-2 c κs = tt
+
+slice-aggregate-step-11 : tie.Need-slice-aggregate-step-11
+slice-aggregate-step-11 c = refl
+
+slice-aggregate-step-12 : tie.Need-slice-aggregate-step-12
+slice-aggregate-step-12 c = refl
+
+slice-aggregate-step-13 : tie.Need-slice-aggregate-step-13
+slice-aggregate-step-13 c = refl
+
+slice-aggregate-step-14 : tie.Need-slice-aggregate-step-14
+slice-aggregate-step-14 c = refl
+
+slice-aggregate-step-15 : tie.Need-slice-aggregate-step-15
+slice-aggregate-step-15 c = refl
+
+step-requires-3 : tie.Need-step-requires-3
+step-requires-3 c κs = tt
+
+same-length : tie.Need-same-length
+same-length c =
+    c .before .before .step3 .kept .1 .1 .0 ∙ c .before .before .before .before .before .before .before .before .before .before .before .step2 .kept .1 .1 .0 ∙ c .before .before .before .before .before .before .before .before .before .before .before .before .before .before .before .before .before .before .before .before .step .kept .1 .1 .0 ∙ c .before .before .before .before .before .before .before .before .before .before .before .before .before .before .before .before .before .before .before .before .before .before .before .before .before .before .before .before .before .before .start .kept .0
+
+returns : tie.Need-returns
+returns c = search needs
+
+pub two-opened-spec : {M : Type 1} → statement M
+two-opened-spec =
+    tie.close
+    (tie.spec
+    start-requires
+    slice-aggregate-step
+    slice-aggregate-step-2
+    slice-aggregate-step-3
+    slice-aggregate-step-4
+    slice-aggregate-step-5
+    step-requires
+    slice-aggregate-step-6
+    slice-aggregate-step-7
+    slice-aggregate-step-8
+    slice-aggregate-step-9
+    slice-aggregate-step-10
+    step-requires-2
+    slice-aggregate-step-11
+    slice-aggregate-step-12
+    slice-aggregate-step-13
+    slice-aggregate-step-14
+    slice-aggregate-step-15
+    step-requires-3
+    same-length
+    returns)
