@@ -125,17 +125,20 @@ loop-less c =
 
 loop-again : tie.Need-loop-again Inv-loop μ-loop
 loop-again c =
-    let l = c .before .before .before .before .before .before .before .before .before .before .before .before .before .before .loop in
-    let input = now (c .before .before .before .before .before .before .before .before .before .before .before .before .before .before .before .before .before .before .before .args .input) in
-    let whole = c .before .before .before .before .before .before .before .before .before .before .before .whole .ensures ∙ ap wholeOf (to-end input (l .at)) in
-    let some = c .before .before .before .before .before .before .before .before .before .before .if1 .left in
-    let fits = whole-fits (drop (l .at) input) in
-    let two = fits .1 (omega arith) in
-    let long = length-drop (l .at) input in
-    let did = c .before .before .before .before .before .before .step .ensures in
-    let out = now (c .before .before .before .before .before .before .before .before .before .before .before .before .before .before .before .before .before .before .before .args .out) in
+    let at-step = c .before .before .before .before .before .before in
+    let at-whole = at-step .before .before .before .before .before in
+    let at-loop = at-whole .before .before .before in
+    let l = at-loop .loop in
+    let a = at-loop .before .before .before .before .before .args in
+    let input = now (a .input) in
+    let out = now (a .out) in
+    let n = at-whole .whole .result in
+    let whole = at-whole .whole .ensures ∙ ap wholeOf (to-end input (l .at)) in
+    let some = at-step .before .before .before .before .if1 .left in
+    let did = at-step .step .ensures in
     let lines = back-end (l .out) (l .used) _ _ (l .inv .1 .used-in) (did .1 .1) in
-    (c .before .before .before .before .before .before .step .kept .1 .0 ∙ l .inv .0, turn (now (c .before .before .before .before .before .before .before .before .before .before .before .before .before .before .before .before .before .before .before .args .list)) input out _ (l .store) (l .out) (l .next) (l .at) (l .used) (c .before .before .before .before .before .before .before .before .before .before .before .whole .result) (l .inv .1) (c .before .before .before .before .before .before .before .before .before .before .before .before .before .loop-test .taken) whole (omega arith) (pdu-lent input (l .at) (c .before .before .before .before .before .before .before .before .before .before .before .whole .result) whole) (did .0 .0) (did .1 .0) (did .0 .1) (did .0 .2) lines)
+    let went = walkOver (now (a .list)) (length out) (walkOf (a .kept) (now (a .store))) (pdus input) in
+    (at-step .step .kept .1 .0 ∙ l .inv .0, turn (now (a .list)) input out went (l .store) (l .out) (l .next) (l .at) (l .used) n (l .inv .1) (at-whole .before .before .loop-test .taken) whole (omega arith) (pdu-lent input (l .at) n whole) (did .0 .0) (did .1 .0) (did .0 .1) (did .0 .2) lines)
 
 same-length : tie.Need-same-length Inv-loop μ-loop
 same-length c = c .before .loop .inv .0
