@@ -89,6 +89,8 @@ fn run(rounds: u64, file: &[u8]) -> Tally
     ensures { λ r. ⌜ (rounds ≡ 0 → r ≡ noPdus) ⌝ }
 {
     let mut store = [0u8; paper::STORE];
+    // The store begins used, and is known outside the program: what is written to it can't be left out as never read.
+    os::arg(3, &mut store);
     let mut reply = [0u8; paper::REPLY_MIN];
     let mut tally = Tally {
         ready: 0,

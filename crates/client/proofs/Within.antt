@@ -1,25 +1,22 @@
 -- What a PDU carries lies within it.
 -- Assumes nothing.
-use mathlib.Core.Path.{_≡_}
 use mathlib.Core.List.{List}
-use Prim.Native.Nat.{ℕ, _+_, _≤_}
+use Prim.Native.Nat.{ℕ}
 use native.Mathlib.Omega.{arith}
-use lib.ListN.{length}
 use Rattle.reading.specs.declared.Pdu.{Pdu}
 use Rattle.reading.specs.declared.Pdu.the-variants.{CreateRequest, CreateResponse, DataFirst, Data, Close, CapsRequest, CapsResponse, Refused}
 use Rattle.reading.proofs.Placed.{Placed}
 use Rattle.client.specs.declared.Cargo.{Cargo}
-use Rattle.client.specs.declared.Cargo.the-variants.{Nothing, Version, Name, Block, End}
-use Rattle.client.specs.Events.{carriedBy}
+use Rattle.client.specs.declared.Cargo.the-variants.{Nothing, Version, For}
+use Rattle.client.specs.Events.{carriedBy, Within}
 
-abbrev pub Within : List ℕ → Cargo → Type 0
-Within pdu (Nothing why) = Unit {0}
-Within pdu (Version version) = Unit {0}
-Within pdu (Name n class name) = name .at + name .len ≤ length pdu
-Within pdu (Block n offer block) = block .at + block .len ≤ length pdu
-Within pdu (End n) = Unit {0}
+-- what is carried to a channel lies within the PDU
+abbrev pub Holds-it : List ℕ → Cargo → Type 0
+Holds-it pdu (Nothing why) = Unit {0}
+Holds-it pdu (Version version) = Unit {0}
+Holds-it pdu (For n ask) = Within pdu ask
 
-pub within : (pdu : List ℕ) (read : Pdu) → Placed pdu read → Within pdu (carriedBy read)
+pub within : (pdu : List ℕ) (read : Pdu) → Placed pdu read → Holds-it pdu (carriedBy read)
 unfolding carriedBy
 within pdu (CreateRequest n class name) h = omega (arith, h)
 within pdu (CreateResponse n status) h = tt

@@ -1,7 +1,8 @@
 -- What a received PDU is an event of.
-use Prim.Native.Nat.{ℕ}
+use Prim.Native.Nat.{ℕ, _+_, _≤_}
 use mathlib.Core.Bool.{Bool, true, false, cond}
 use mathlib.Core.List.{List}
+use lib.ListN.{length}
 use Rattle.paper.specs.declared.Refusal.{Refusal}
 use Rattle.paper.specs.declared.Refusal.the-variants.{WrongTime}
 use Rattle.reading.specs.Said.{bytesAt}
@@ -10,7 +11,9 @@ use Rattle.reading.specs.declared.Pdu.the-variants.{CreateRequest, CreateRespon
 use Rattle.listeners.specs.Listeners.{goodList, isListed}
 use Rattle.channel.specs.declared.Offer.the-variants.{First, More}
 use Rattle.client.specs.declared.Cargo.{Cargo}
-use Rattle.client.specs.declared.Cargo.the-variants.{Nothing, Version, Name, Block, End}
+use Rattle.client.specs.declared.Cargo.the-variants.{Nothing, Version, For}
+use Rattle.client.specs.declared.Ask.{Ask}
+use Rattle.client.specs.declared.Ask.the-variants.{Name, Block, End}
 use Rattle.channel.specs.Channel.{Act, BadCreate, Create, Bring, Closing, LocalClose}
 
 pub data Event : Type 0 where
@@ -32,22 +35,32 @@ closeAct false = Closing
 
 -- what a PDU carries, from what reading finds in it. Responses are never read in a PDU from the server.
 unfoldable pub carriedBy : Pdu → Cargo
-carriedBy (CreateRequest n class name) = Name n class name
+carriedBy (CreateRequest n class name) = For n (Name class name)
 carriedBy (CreateResponse n status) = Nothing WrongTime
-carriedBy (DataFirst n len block) = Block n (First len) block
-carriedBy (Data n block) = Block n More block
-carriedBy (Close n) = End n
+carriedBy (DataFirst n len block) = For n (Block (First len) block)
+carriedBy (Data n block) = For n (Block More block)
+carriedBy (Close n) = For n (End false)
 carriedBy (CapsRequest version charges) = Version version
 carriedBy (CapsResponse version) = Nothing WrongTime
 carriedBy (Refused why) = Nothing why
 
--- the event of what is carried. Only a Create request judges the listener list.
+-- what is asked lies within the PDU
+abbrev pub Within : List ℕ → Ask → Type 0
+Within pdu (Name class name) = name .at + name .len ≤ length pdu
+Within pdu (Block offer block) = block .at + block .len ≤ length pdu
+Within pdu (End local) = Unit {0}
+
+-- what is asked of a channel. Only a Create request judges the listener list.
+unfoldable pub actFor : List ℕ → List ℕ → Ask → Act
+actFor list pdu (Name class name) = createAct list (bytesAt pdu name) class
+actFor list pdu (Block offer block) = Bring offer (bytesAt pdu block)
+actFor list pdu (End local) = closeAct local
+
+-- the event of what is carried
 unfoldable pub eventFor : List ℕ → List ℕ → Cargo → Event
 eventFor list pdu (Nothing why) = Unreadable why
 eventFor list pdu (Version version) = Capabilities version
-eventFor list pdu (Name n class name) = Of n (createAct list (bytesAt pdu name) class)
-eventFor list pdu (Block n offer block) = Of n (Bring offer (bytesAt pdu block))
-eventFor list pdu (End n) = Of n Closing
+eventFor list pdu (For n ask) = Of n (actFor list pdu ask)
 
 -- a PDU's event
 unfoldable pub eventOf : List ℕ → List ℕ → Pdu → Event

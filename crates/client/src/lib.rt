@@ -14,23 +14,24 @@ use paper::PARTS;
 use paper::Refusal;
 use reading::Pdu;
 use reading::Place;
+use table::Found;
 use table::Table;
 ghost use mathlib.Core.Path.{_≡_};
 ghost use mathlib.Core.List.{List};
-ghost use Prim.Native.Nat.{ℕ, _-_, _<_, min};
+ghost use Prim.Native.Nat.{ℕ, _-_, min};
 ghost use lib.ListN.{length};
-ghost use Rattle.paper.specs.Sizes.{PARTS, STORE};
+ghost use Rattle.paper.specs.Sizes.{STORE};
 ghost use Rattle.paper.specs.Statuses.{OPENED};
 ghost use mathlib.Core.Bool.{true};
 ghost use Rattle.lists.specs.Bytes.{laid};
 ghost use Rattle.reading.specs.Reading.{readPdu};
 ghost use Rattle.laying.specs.Laying.{createResponseBytes};
-ghost use Rattle.channel.specs.Channel.{Open, restaged, landed, classAt, openedRecord, Bring};
-ghost use Rattle.table.specs.Table.{numberPlace, recordAt, withRecord};
-ghost use Rattle.store.specs.Parts.{part};
+ghost use Rattle.channel.specs.Channel.{restaged, classAt, openedRecord, Bring};
+ghost use Rattle.table.specs.Table.{numberPlace, freePlace, withRecord, foundIn};
 ghost use Rattle.client.specs.State.{stateOf};
-ghost use Rattle.client.specs.Events.{Capabilities, Of, createAct, closeAct, carriedBy, eventOf};
-ghost use Rattle.client.specs.Client.{Gives, finished, stepped, badCall, received, locallyClosed, started, storeStarted};
+ghost use Rattle.client.specs.Events.{Capabilities, Of, createAct, closeAct, Within, carriedBy, actFor, eventOf};
+ghost use Rattle.client.specs.Landing.{stageAfter, answerTo, storeAfter};
+ghost use Rattle.client.specs.Client.{Gives, stepped, badCall, received, locallyClosed, started, storeStarted};
 
 // Whether Start did its work.
 pub enum Begun {
@@ -117,9 +118,9 @@ fn class_at(level: u8, pri: u8) -> u8
     0
 }
 
-// A channel is opened in the record at place k.
-fn opened(table: Table, k: usize, number: u32, pri: u8, reply: &mut [u8]) -> Received
-    ensures { λ r. ⌜ r ≡ record { table = withRecord table k (openedRecord (table .level) number pri); answer = Answer.Opened number; sent = length (createResponseBytes number OPENED) } ⌝ }
+// A channel is opened in the lowest-numbered free record.
+fn opened(table: Table, number: u32, pri: u8, reply: &mut [u8]) -> Received
+    ensures { λ r. ⌜ r ≡ record { table = withRecord table (freePlace table) (openedRecord (table .level) number pri); answer = Answer.Opened number; sent = length (createResponseBytes number OPENED) } ⌝ }
     ensures { λ _. ⌜ now (reply .exit) ≡ laid (now (reply .entry)) 0 (createResponseBytes number OPENED) ⌝ }
 {
     let class = class_at(table.level, pri);
@@ -131,54 +132,38 @@ fn opened(table: Table, k: usize, number: u32, pri: u8, reply: &mut [u8]) -> Rec
     };
     let sent = laying::create_response(reply, number, paper::OPENED);
     Received {
-        table: table::with_record(table, k, record),
+        table: table::fill(table, record),
         answer: Answer::Opened { number },
         sent,
     }
 }
 
-// A Create request.
+// A Create request, with the place of its number.
 fn on_create(
     table: Table,
+    k: usize,
     list: &[u8],
     number: u32,
     pri: u8,
     name: &[u8],
     reply: &mut [u8],
 ) -> Received
+    requires { ⌜ (table .ready ≡ true) × (k ≡ numberPlace number table) ⌝ }
     ensures { λ r. ⌜ ((store : List ℕ) → length store ≡ STORE → Gives (stepped (stateOf table store) (Of number (createAct (now (list .entry)) (now (name .entry)) pri))) (now (reply .entry)) r store (now (reply .exit))) ⌝ }
 {
-    if !table.ready {
-        return refused(table, Refusal::WrongTime, Concern::NoChannel);
-    }
     if !listeners::good(list) {
         return refused(table, Refusal::BadList, Concern::NoChannel);
     }
-    if table::find_number(table, number) < PARTS {
+    if k < PARTS {
         return refused(table, Refusal::AlreadyOpen, Concern::Channel(number));
     }
     if !listeners::listed(list, name) {
         return declined(table, number, Decline::Unlisted, paper::UNLISTED, reply);
     }
-    let k = table::find_free(table);
-    if PARTS <= k {
+    if PARTS <= table::find_free(table) {
         return declined(table, number, Decline::Full, paper::FULL, reply);
     }
-    opened(table, k, number, pri, reply)
-}
-
-// The table with the record at place k in another stage.
-fn restage(table: Table, k: usize, stage: Stage) -> Table
-    ensures { λ r. ⌜ r ≡ withRecord table k (restaged (recordAt table k) stage) ⌝ }
-{
-    let record = table::record_at(table, k);
-    let next = Record {
-        taken: record.taken,
-        number: record.number,
-        class: record.class,
-        stage,
-    };
-    table::with_record(table, k, next)
+    opened(table, number, pri, reply)
 }
 
 // How many bytes of a message are still to come.
@@ -191,73 +176,115 @@ fn left(wanted: u16, held: u16) -> usize
     0
 }
 
-// What data does to the channel at place k.
-fn land(table: Table, store: &mut [u8], k: usize, number: u32, block: &[u8], took: Took) -> Received
-    requires { ⌜ (length (now store) ≡ STORE) × (k < PARTS) × (k ≡ numberPlace number table) ⌝ }
-    ensures { λ r. ⌜ ((reply : List ℕ) → Gives (finished number (stateOf table (now (store .entry))) (Open (recordAt table k) (part (now (store .entry)) k)) (landed number (recordAt table k) (part (now (store .entry)) k) (now (block .entry)) took)) reply r (now (store .exit)) reply) ⌝ }
+// The answer to data.
+fn answer_to(number: u32, took: Took) -> Answer
+    ensures { λ r. ⌜ r ≡ answerTo number took ⌝ }
 {
     match took {
-        Took::Bars(why) => refused(table, why, Concern::Channel(number)),
-        Took::Spoils(why) => refused(
-            restage(table, k, Stage::Spoiled),
+        Took::Bars(why) => Answer::Refused {
             why,
-            Concern::Channel(number),
-        ),
-        Took::Holds { wanted, at, held } => {
-            store::put_block(store, k, at as usize, block);
-            Received {
-                table: restage(table, k, Stage::Joining { wanted, held }),
-                answer: Answer::Held {
-                    number,
-                    left: left(wanted, held),
-                },
-                sent: 0,
-            }
-        }
-        Took::Finishes { at, len } => {
-            store::put_block(store, k, at as usize, block);
-            Received {
-                table: restage(table, k, Stage::Idle),
-                answer: Answer::Message { number, len },
-                sent: 0,
-            }
-        }
+            concern: Concern::Channel(number),
+        },
+        Took::Spoils(why) => Answer::Refused {
+            why,
+            concern: Concern::Channel(number),
+        },
+        Took::Holds {
+            wanted,
+            at: _,
+            held,
+        } => Answer::Held {
+            number,
+            left: left(wanted, held),
+        },
+        Took::Finishes { at: _, len } => Answer::Message { number, len },
     }
 }
 
-// A Data First or a Data.
-fn on_data(table: Table, store: &mut [u8], number: u32, offer: Offer, block: &[u8]) -> Received
-    requires { ⌜ length (now store) ≡ STORE ⌝ }
+// The stage that data leaves. What bars it is that the channel is spoiled.
+fn stage_after(took: Took) -> Stage
+    ensures { λ r. ⌜ r ≡ stageAfter took ⌝ }
+{
+    match took {
+        Took::Bars(_) => Stage::Spoiled,
+        Took::Spoils(_) => Stage::Spoiled,
+        Took::Holds {
+            wanted,
+            at: _,
+            held,
+        } => Stage::Joining { wanted, held },
+        Took::Finishes { at: _, len: _ } => Stage::Idle,
+    }
+}
+
+// The block goes into the part at place k, unless it is refused.
+fn put(store: &mut [u8], k: usize, block: &[u8], took: Took)
+    ensures { λ _. ⌜ now (store .exit) ≡ storeAfter (now (store .entry)) k (now (block .entry)) took ⌝ }
+{
+    match took {
+        Took::Bars(_) => {}
+        Took::Spoils(_) => {}
+        Took::Holds {
+            wanted: _,
+            at,
+            held: _,
+        } => store::put_block(store, k, at as usize, block),
+        Took::Finishes { at, len: _ } => store::put_block(store, k, at as usize, block),
+    }
+}
+
+// An open record in another stage.
+fn restaged(row: Record, stage: Stage) -> Record
+    requires { ⌜ row .taken ≡ true ⌝ }
+    ensures { λ r. ⌜ r ≡ restaged row stage ⌝ }
+{
+    Record {
+        number: row.number,
+        class: row.class,
+        taken: true,
+        stage,
+    }
+}
+
+// A Data First or a Data, with what was found of its number.
+fn on_data(
+    table: Table,
+    found: Found,
+    store: &mut [u8],
+    number: u32,
+    offer: Offer,
+    block: &[u8],
+) -> Received
+    requires { ⌜ (length (now store) ≡ STORE) × (table .ready ≡ true) × (found ≡ foundIn number table) ⌝ }
     ensures { λ r. ⌜ ((reply : List ℕ) → Gives (stepped (stateOf table (now (store .entry))) (Of number (Bring offer (now (block .entry))))) reply r (now (store .exit)) reply) ⌝ }
 {
-    if !table.ready {
-        return refused(table, Refusal::WrongTime, Concern::NoChannel);
-    }
-    let k = table::find_number(table, number);
+    let k = found.place;
     if PARTS <= k {
         return refused(table, Refusal::NotOpen, Concern::Channel(number));
     }
-    let record = table::record_at(table, k);
-    let stage = record.stage;
-    land(
-        table,
-        store,
-        k,
-        number,
-        block,
-        channel::take(stage, offer, block.len()),
-    )
+    let row = found.row;
+    let stage = row.stage;
+    let took = channel::take(stage, offer, block.len());
+    put(store, k, block, took);
+    Received {
+        table: table::replace(table, number, restaged(row, stage_after(took))),
+        answer: answer_to(number, took),
+        sent: 0,
+    }
 }
 
-// A Close or, by the host, a local close.
-fn on_close(table: Table, store: &mut [u8], number: u32, local: bool, reply: &mut [u8]) -> Received
-    requires { ⌜ length (now store) ≡ STORE ⌝ }
+// A Close or, by the host, a local close, with the place of its number.
+fn on_close(
+    table: Table,
+    k: usize,
+    store: &mut [u8],
+    number: u32,
+    local: bool,
+    reply: &mut [u8],
+) -> Received
+    requires { ⌜ (length (now store) ≡ STORE) × (table .ready ≡ true) × (k ≡ numberPlace number table) ⌝ }
     ensures { λ r. ⌜ Gives (stepped (stateOf table (now (store .entry))) (Of number (closeAct local))) (now (reply .entry)) r (now (store .exit)) (now (reply .exit)) ⌝ }
 {
-    if !table.ready {
-        return refused(table, Refusal::WrongTime, Concern::NoChannel);
-    }
-    let k = table::find_number(table, number);
     if PARTS <= k {
         if local {
             return refused(table, Refusal::NotOpen, Concern::Channel(number));
@@ -271,27 +298,24 @@ fn on_close(table: Table, store: &mut [u8], number: u32, local: bool, reply: &mu
     store::clear_part(store, k);
     let sent = laying::close(reply, number);
     Received {
-        table: table::with_record(table, k, table::blank()),
+        table: table::free(table, number),
         answer: Answer::Closed { number },
         sent,
     }
 }
 
-// What a PDU from the server carries. Data First and Data differ in what they offer, and go one way from here.
+// What is asked of a channel. Data First and Data differ in what they offer, and go one way from here.
+enum Ask {
+    Name { class: u8, name: Place },
+    Block { offer: Offer, block: Place },
+    End { local: bool },
+}
+
+// What a PDU from the server carries.
 enum Cargo {
     Nothing(Refusal),
     Version(u16),
-    Name {
-        number: u32,
-        class: u8,
-        name: Place,
-    },
-    Block {
-        number: u32,
-        offer: Offer,
-        block: Place,
-    },
-    End(u32),
+    For { number: u32, ask: Ask },
 }
 
 // What a PDU carries, by its kind. Responses are never read in a PDU from the server.
@@ -308,31 +332,71 @@ fn carried(read: Pdu) -> Cargo
             number,
             class,
             name,
-        } => Cargo::Name {
+        } => Cargo::For {
             number,
-            class,
-            name,
+            ask: Ask::Name { class, name },
         },
         Pdu::DataFirst {
             number,
             length,
             block,
-        } => Cargo::Block {
+        } => Cargo::For {
             number,
-            offer: Offer::First(length),
-            block,
+            ask: Ask::Block {
+                offer: Offer::First(length),
+                block,
+            },
         },
-        Pdu::Data { number, block } => Cargo::Block {
+        Pdu::Data { number, block } => Cargo::For {
             number,
-            offer: Offer::More,
-            block,
+            ask: Ask::Block {
+                offer: Offer::More,
+                block,
+            },
         },
-        Pdu::Close { number } => Cargo::End(number),
+        Pdu::Close { number } => Cargo::For {
+            number,
+            ask: Ask::End { local: false },
+        },
         Pdu::CreateResponse {
             number: _,
             status: _,
         } => Cargo::Nothing(Refusal::WrongTime),
         Pdu::CapsResponse { version: _ } => Cargo::Nothing(Refusal::WrongTime),
+    }
+}
+
+// What is asked of the channel with a number: refused when not ready. Else the number is looked for, once, and the
+// function for what is asked goes on from there.
+fn on_channel(
+    table: Table,
+    store: &mut [u8],
+    list: &[u8],
+    pdu: &[u8],
+    number: u32,
+    ask: Ask,
+    reply: &mut [u8],
+) -> Received
+    requires { ⌜ (length (now store) ≡ STORE) × Within (now pdu) ask ⌝ }
+    ensures { λ r. ⌜ Gives (stepped (stateOf table (now (store .entry))) (Of number (actFor (now (list .entry)) (now (pdu .entry)) ask))) (now (reply .entry)) r (now (store .exit)) (now (reply .exit)) ⌝ }
+{
+    if !table.ready {
+        return refused(table, Refusal::WrongTime, Concern::NoChannel);
+    }
+    let found = table::find_number(table, number);
+    let k = found.place;
+    match ask {
+        Ask::Name { class, name } => {
+            let at = name.at;
+            let end = at + name.len;
+            on_create(table, k, list, number, class, &pdu[at..end], reply)
+        }
+        Ask::Block { offer, block } => {
+            let at = block.at;
+            let end = at + block.len;
+            on_data(table, found, store, number, offer, &pdu[at..end])
+        }
+        Ask::End { local } => on_close(table, k, store, number, local, reply),
     }
 }
 
@@ -345,25 +409,7 @@ fn on_pdu(table: Table, store: &mut [u8], list: &[u8], pdu: &[u8], reply: &mut [
     match cargo {
         Cargo::Nothing(why) => refused(table, why, Concern::NoChannel),
         Cargo::Version(version) => on_capabilities(table, version, reply),
-        Cargo::Name {
-            number,
-            class,
-            name,
-        } => {
-            let at = name.at;
-            let end = at + name.len;
-            on_create(table, list, number, class, &pdu[at..end], reply)
-        }
-        Cargo::Block {
-            number,
-            offer,
-            block,
-        } => {
-            let at = block.at;
-            let end = at + block.len;
-            on_data(table, store, number, offer, &pdu[at..end])
-        }
-        Cargo::End(number) => on_close(table, store, number, false, reply),
+        Cargo::For { number, ask } => on_channel(table, store, list, pdu, number, ask, reply),
     }
 }
 
@@ -425,5 +471,6 @@ pub fn local_close(table: Table, store: &mut [u8], number: u32, reply: &mut [u8]
     if bad_call(table, store.len(), reply.len()) {
         return refused(table, Refusal::WrongSize, Concern::NoChannel);
     }
-    on_close(table, store, number, true, reply)
+    let ask = Ask::End { local: true };
+    on_channel(table, store, b"", b"", number, ask, reply)
 }

@@ -29,7 +29,7 @@ use Rattle.channel.specs.declared.Took.the-variants.{Holds, Finishes}
 use Rattle.channel.specs.Stages.{added, begun, took}
 use Rattle.channel.specs.Channel.{Bring, View, Open, Room, restaged, landed, act}
 use Rattle.client.specs.State.{State, view, roomIn}
-use Rattle.client.specs.Events.{Event, Unreadable, Capabilities, Of, eventOf, eventFor, carriedBy}
+use Rattle.client.specs.Events.{Event, Unreadable, Capabilities, Of, eventOf, eventFor, actFor, carriedBy}
 use Rattle.client.specs.Client.{stepped}
 use Rattle.cutting.specs.Cutting.{isFirst, blockLen, blockEnd, block, cutPdu}
 use Rattle.cutting.proofs.Blocks.{end-is, end-from, end-within, end-after, length-block, cut-first, cut-data, cut-fits, whole-end, long-first, later-data}
@@ -94,7 +94,7 @@ message-small = lit< tt
 
 module _ (n : ℕ) (m : List ℕ) (small-number : n < 4294967296) (short-enough : length m ≤ MESSAGE-MAX) where
   block-event : (at : ℕ) (t : Bool) → isFirst (length m) at ≡ t → eventOfPdu (cutPdu n m at) ≡ Of n (Bring (cond t (First (length m)) More) (block n m at))
-  unfolding eventOfPdu eventOf eventFor carriedBy
+  unfolding eventOfPdu eventOf eventFor actFor carriedBy
   block-event at true e =
       let p = cut-first n m at e in
       let fits = subst (λ (b : List ℕ). length b ≤ PDU-MAX) p (cut-fits n m at) in

@@ -33,7 +33,7 @@ use Rattle.channel.specs.Stages.{added, begun, took}
 use Rattle.channel.specs.Channel.{Act, BadCreate, Create, Bring, Closing, LocalClose, View, Shut, Open, Did, openedRecord, restaged, opening, landed, act}
 use Rattle.table.specs.Sound.{goodStage}
 use Rattle.table.proofs.Soundness.{joining-bounds, joining-good}
-use Rattle.client.specs.Events.{Event, Unreadable, Capabilities, Of, createAct, eventOf, eventFor, carriedBy}
+use Rattle.client.specs.Events.{Event, Unreadable, Capabilities, Of, createAct, eventOf, eventFor, actFor, carriedBy}
 use Rattle.demands.specs.Runs.{Asked, firstOf, eventIn}
 use Rattle.demands.specs.Runs
 use Rattle.demands.specs.Joining.{Join, Off, Quiet, Gathering, Dead, Brings, Nothing, StillToCome, Whole, Joined, still, gathered, startsWith, goesOn, joins, joinAll, broughtBy, brought}
@@ -225,7 +225,7 @@ unfolding createAct
 create-block n list name pri = choice (λ (a : Act). FineBlock (Of n a)) (goodList list) (λ e. tt) (λ e. tt)
 
 short-blocks : (list pdu : List ℕ) → length pdu ≤ PDU-MAX → (p : Pdu) → Placed pdu p → FineBlock (eventOf list pdu p)
-unfolding eventOf eventFor carriedBy
+unfolding eventOf eventFor actFor carriedBy
 short-blocks list pdu k (CreateRequest n class name) h = create-block n list (bytesAt pdu name) class
 short-blocks list pdu k (CreateResponse n status) h = tt
 short-blocks list pdu k (DataFirst n len block) h = block-fits pdu block h k
@@ -236,7 +236,7 @@ short-blocks list pdu k (CapsResponse version) h = tt
 short-blocks list pdu k (Refused why) h = tt
 
 unread-block : (list pdu : List ℕ) → FineBlock (eventOf list pdu (Refused TooLong))
-unfolding eventOf eventFor carriedBy
+unfolding eventOf eventFor actFor carriedBy
 unread-block list pdu = tt
 
 read-blocks : (list pdu : List ℕ) → FineBlock (eventOf list pdu (readPdu true pdu))

@@ -16,7 +16,7 @@ use Rattle.channel.specs.Channel.{View, Shut}
 use Rattle.lists.specs.Places.{place}
 use Rattle.table.specs.Table.{emptyTable, holds, numberPlace}
 use Rattle.client.specs.State.{State, stateOf, view}
-use Rattle.client.specs.Events.{Event, Capabilities, eventOf, eventFor, carriedBy}
+use Rattle.client.specs.Events.{Event, Capabilities, eventOf, eventFor, actFor, carriedBy}
 use Rattle.client.specs.Client.{Stepped, started, storeStarted, readied, stepped}
 use Rattle.client.proofs.Steps.{made-ready, view-shut}
 use Rattle.steps.proofs.Channels.{FineEvent}
@@ -50,7 +50,7 @@ pub record Fresh (st : State) : Type 0 where
   pub shut : (n : ℕ) → view n st ≡ Shut
 
 caps-event : (list pdu : List ℕ) (version : ℕ) (charges : Charges) → readPdu true pdu ≡ CapsRequest version charges → eventOf list pdu (readPdu true pdu) ≡ Capabilities version
-unfolding eventOf eventFor carriedBy
+unfolding eventOf eventFor actFor carriedBy
 caps-event list pdu version charges e = rw e
 
 empty-unready : emptyTable .ready ≡ false

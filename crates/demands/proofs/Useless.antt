@@ -22,7 +22,7 @@ use Rattle.channel.specs.Stages.{added, begun, took}
 use Rattle.channel.specs.Channel.{Act, Create, Bring, Closing, openedRecord, restaged, opening, landed, act}
 use Rattle.table.specs.Table.{emptyTable, holds, isFree, numberPlace, freePlace, recordAt, withRecord}
 use Rattle.client.specs.State.{State, viewAt, view, roomAt, roomIn, wrote, save}
-use Rattle.client.specs.Events.{Event, Of, createAct, eventOf, eventFor, carriedBy}
+use Rattle.client.specs.Events.{Event, Of, createAct, eventOf, eventFor, actFor, carriedBy}
 use Rattle.client.specs.Client.{finished, acted, readied, stepped}
 use Rattle.demands.specs.Trace.{consIf, keep, seen, Never}
 use Rattle.demands.specs.Runs.{Asked, Pdu, Call, Told, eventIn, isOf, isEventOf, ownEvents, fullTable, asksRoom, eventMeetsFull, meetsFull}
@@ -73,7 +73,7 @@ happened =
     ∷ []
 
 read-run : map readCall run ≡ happened
-unfolding happened run asks PUMP call eventIn eventOf eventFor carriedBy createAct readPdu byCommand numbered badLengthWidth afterNumber closing dataFirst createRequest namedFor bytesAt little valueOf valueAt widthOf place names ended noneEmpty sameBytes isOneOf allNames goodList isListed PDU-MAX LIST-MAX
+unfolding happened run asks PUMP call eventIn eventOf eventFor actFor carriedBy createAct readPdu byCommand numbered badLengthWidth afterNumber closing dataFirst createRequest namedFor bytesAt little valueOf valueAt widthOf place names ended noneEmpty sameBytes isOneOf allNames goodList isListed PDU-MAX LIST-MAX
 read-run = refl
 
 -- what it should bring on 5

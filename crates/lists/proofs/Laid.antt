@@ -55,6 +55,11 @@ pub laid-turn : (l bs : List ℕ) (i : ℕ) → i < length bs → laid (set l i 
 unfolding laid
 laid-turn l bs i h = rw (add-one, drop-cons bs i 0 h)
 
+-- one turn of a copy with no bytes left
+pub laid-rest : (l bs : List ℕ) (i : ℕ) → length bs ≤ i → laid l (i + 1) (drop (i + 1) bs) ≡ laid l i (drop i bs)
+unfolding laid
+laid-rest l bs i h = rw (drop-of-length-le bs {i = i + 1} (omega arith), drop-of-length-le bs {i = i} h)
+
 -- a copy that has come to the end of either list
 pub laid-end : (l bs : List ℕ) (i : ℕ) → min (length l) (length bs) ≤ i → laid l i (drop i bs) ≡ l
 unfolding laid

@@ -40,12 +40,19 @@ pub fn narrow(value: u32) -> usize
     width(code(value))
 }
 
-// A four-byte scratch that holds the bytes, with zeros behind fewer than four.
+// A four-byte scratch that holds the bytes, with zeros behind fewer than four. Its turns are counted by the scratch and not
+// by the bytes, so the compiler lays them out one by one: a block copy of one byte would cost more than the rest.
 pub fn four(bytes: &[u8]) -> [u8; 4]
     ensures { λ r. ⌜ r ≡ laid (zeros 4) 0 (now (bytes .entry)) ⌝ }
 {
     let mut scratch = [0u8; 4];
-    lists::copy(&mut scratch, bytes);
+    let mut i = 0;
+    while i < 4 {
+        if i < bytes.len() {
+            scratch[i] = bytes[i];
+        }
+        i += 1;
+    }
     scratch
 }
 

@@ -165,7 +165,8 @@ fn step(
 fn holds(name: &[u8], table: Table, store: &[u8], number: u32, want: &[u8]) -> bool
     ensures { λ r. ⌜ (r ≡ true → take (length (now (want .entry))) (part (now (store .entry)) (numberPlace number table)) ≡ now (want .entry)) ⌝ }
 {
-    let k = table::find_number(table, number);
+    let found = table::find_number(table, number);
+    let k = found.place;
     if store.len() != STORE {
         return say(name, false);
     }

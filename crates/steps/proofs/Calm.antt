@@ -25,7 +25,7 @@ use Rattle.table.specs.Table.{emptyTable, recordAt}
 use Rattle.table.specs.Sound.{soundTable}
 use Rattle.table.proofs.Soundness.{sound-empty, sound-ready}
 use Rattle.client.specs.State.{State, stateOf}
-use Rattle.client.specs.Events.{Event, Unreadable, Capabilities, Of, createAct, eventOf, eventFor, carriedBy}
+use Rattle.client.specs.Events.{Event, Unreadable, Capabilities, Of, createAct, eventOf, eventFor, actFor, carriedBy}
 use Rattle.client.specs.Client.{readied, stepped, badCall, wholeOf, guarded, received, locallyClosed}
 use Rattle.client.proofs.Steps.{too-early, made-ready}
 use Rattle.client.proofs.Calls.{proper, refuses, passes}
@@ -97,7 +97,7 @@ unfolding createAct
 fine-create list name pri h = choice FineAct (goodList list) (λ e. h) (λ e. tt)
 
 fine-read : (list pdu : List ℕ) (p : Pdu) → Placed pdu p → FineEvent (eventOf list pdu p)
-unfolding eventOf eventFor carriedBy
+unfolding eventOf eventFor actFor carriedBy
 fine-read list pdu (CreateRequest n class name) h = fine-create list (bytesAt pdu name) class (h .1)
 fine-read list pdu (CreateResponse n status) h = tt
 fine-read list pdu (DataFirst n len block) h = tt

@@ -33,7 +33,7 @@ use Rattle.reading.specs.declared.Pdu.the-variants.{CreateRequest, CreateRespon
 use Rattle.reading.proofs.Placed.{ReadingRefusal, Placed, placed}
 use Rattle.store.specs.Parts.{part}
 use Rattle.client.specs.State.{State, stateOf, view, roomIn, wrote, save}
-use Rattle.client.specs.Events.{Event, Unreadable, Capabilities, Of, eventOf, eventFor, carriedBy}
+use Rattle.client.specs.Events.{Event, Unreadable, Capabilities, Of, eventOf, eventFor, actFor, carriedBy}
 use Rattle.client.specs.Client.{Stepped, refused, finished, readied, stepped, badCall, Whole, wholeOf, guarded, received, locallyClosed}
 use Rattle.client.proofs.Calls.{Proper, proper, refuses, passes}
 use Rattle.client.proofs.Steps.{own-part, save-own, too-early, in-time, too-late, made-ready}
@@ -220,7 +220,7 @@ guarded-refusing t store reply s why concern f e = go (badCall t (length store) 
     go false b = rw (passes t store reply s b) (whole-refusing t store reply s why (f (proper t (length store) (length reply) b) (whole-answer reply s (passes t store reply s b) ∙ e)))
 
 mild-read : (list pdu : List ℕ) (p : Pdu) → Placed pdu p → Mild (eventOf list pdu p)
-unfolding eventOf eventFor carriedBy
+unfolding eventOf eventFor actFor carriedBy
 mild-read list pdu (CreateRequest n class name) h = tt
 mild-read list pdu (CreateResponse n status) h = λ z. z
 mild-read list pdu (DataFirst n len block) h = tt

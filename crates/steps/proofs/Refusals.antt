@@ -40,7 +40,7 @@ use Rattle.table.specs.Sound.{goodStage, soundTable}
 use Rattle.table.proofs.Soundness.{sound-says, joining-bounds}
 use Rattle.client.specs.State.{State, stateOf, viewAt, view, roomIn}
 use Rattle.store.specs.Parts.{part}
-use Rattle.client.specs.Events.{Unreadable, Capabilities, Of, createAct, eventOf, eventFor, carriedBy}
+use Rattle.client.specs.Events.{Unreadable, Capabilities, Of, createAct, eventOf, eventFor, actFor, carriedBy}
 use Rattle.client.specs.Client.{Stepped, refused, finished, acted, readied, stepped, badCall, Whole, wholeOf, guarded, received, locallyClosed}
 use Rattle.client.proofs.Steps.{too-late, made-ready}
 use Rattle.client.proofs.Calls.{proper, refuses, passes as passes-by}
@@ -189,7 +189,7 @@ module _ (t : Table) (store list pdu : List ℕ) (sound : soundTable t ≡ true)
   caps-says version false e = ap verdict (made-ready (stateOf t store) version e)
 
   step-verdict : (p : Pdu) → Placed pdu p → verdict (stepped (stateOf t store) (eventOf list pdu p)) ≡ firstHeld (rowsOf t list p)
-  unfolding eventOf eventFor carriedBy rowsOf firstHeld
+  unfolding eventOf eventFor actFor carriedBy rowsOf firstHeld
   step-verdict (CapsRequest version charges) h = caps-says version (t .ready) refl
   step-verdict (CreateRequest n class name) h = of-verdict (stateOf t store) n (createAct list (bytesAt pdu name) class) ∙ ap (cond (not (t .ready)) (refusedWith WrongTime)) (create-says n class (bytesAt pdu name))
   step-verdict (DataFirst n len block) h =

@@ -24,7 +24,7 @@ use Rattle.table.proofs.Records.{at-same}
 use Rattle.store.specs.Parts.{part, withPart}
 use Rattle.store.proofs.Parts.{there, inside, part-same, part-other}
 use Rattle.client.specs.State.{State, view, roomIn, wrote, save}
-use Rattle.client.specs.Events.{Of, createAct, eventOf, eventFor, carriedBy, closeAct}
+use Rattle.client.specs.Events.{Of, createAct, eventOf, eventFor, actFor, carriedBy, closeAct}
 use Rattle.client.specs.Client.{stepped}
 use Rattle.client.proofs.Steps.{own-part}
 use Rattle.steps.proofs.Frame.{Steady, Fits, room-for, kept-long, there-is}
@@ -90,7 +90,7 @@ create-open st g m n list name pri z r b h = go (eqb n m) refl
 
 -- "it may differ from call to call, and that never touches an open channel"
 pub two-lists : (st : State) (g : Steady st) (one two pdu : List ℕ) (p : Pdu) → Placed pdu p → (m : ℕ) (r : Record) (b : List ℕ) → view m st ≡ Open r b → view m (stepped st (eventOf one pdu p) .state) ≡ view m (stepped st (eventOf two pdu p) .state)
-unfolding eventOf eventFor carriedBy
+unfolding eventOf eventFor actFor carriedBy
 two-lists st g one two pdu (CreateRequest n class name) z m r b h = create-open st g m n one (bytesAt pdu name) class (z .1) r b h ∙ sym (create-open st g m n two (bytesAt pdu name) class (z .1) r b h)
 two-lists st g one two pdu (CreateResponse n status) z m r b h = refl
 two-lists st g one two pdu (DataFirst n len block) z m r b h = refl

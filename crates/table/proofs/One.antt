@@ -3,10 +3,11 @@
 use mathlib.Core.Path.{_≡_, sym, _∙_}
 use Rattle.table.proofs.blank.Reads as blank-reads
 use Rattle.table.proofs.empty.Reads as empty-reads
-use Rattle.table.proofs.record_at.Reads as record-at-reads
-use Rattle.table.proofs.with_record.Reads as with-record-reads
 use Rattle.table.proofs.find_number.Reads as find-number-reads
 use Rattle.table.proofs.find_free.Reads as find-free-reads
+use Rattle.table.proofs.replace.Reads as replace-reads
+use Rattle.table.proofs.free.Reads as free-reads
+use Rattle.table.proofs.fill.Reads as fill-reads
 use Rattle.table.proofs.sound.Reads as sound-reads
 
 pub blank-one : (κs : _) (a : _) (r r′ : _) (s s′ : _) → blank-reads.Post κs a r s → blank-reads.Post κs a r′ s′ → r ≡ r′
@@ -15,17 +16,20 @@ blank-one κs a r r′ s s′ p q = p ∙ sym q
 pub empty-one : (κs : _) (a : _) (r r′ : _) (s s′ : _) → empty-reads.Post κs a r s → empty-reads.Post κs a r′ s′ → r ≡ r′
 empty-one κs a r r′ s s′ p q = p ∙ sym q
 
-pub record-at-one : (κs : _) (a : _) (r r′ : _) (s s′ : _) → record-at-reads.Post κs a r s → record-at-reads.Post κs a r′ s′ → r ≡ r′
-record-at-one κs a r r′ s s′ p q = p ∙ sym q
-
-pub with-record-one : (κs : _) (a : _) (r r′ : _) (s s′ : _) → with-record-reads.Post κs a r s → with-record-reads.Post κs a r′ s′ → r ≡ r′
-with-record-one κs a r r′ s s′ p q = p ∙ sym q
-
 pub find-number-one : (κs : _) (a : _) (r r′ : _) (s s′ : _) → find-number-reads.Post κs a r s → find-number-reads.Post κs a r′ s′ → r ≡ r′
 find-number-one κs a r r′ s s′ p q = p ∙ sym q
 
 pub find-free-one : (κs : _) (a : _) (r r′ : _) (s s′ : _) → find-free-reads.Post κs a r s → find-free-reads.Post κs a r′ s′ → r ≡ r′
 find-free-one κs a r r′ s s′ p q = p ∙ sym q
+
+pub replace-one : (κs : _) (a : _) (r r′ : _) (s s′ : _) → replace-reads.Post κs a r s → replace-reads.Post κs a r′ s′ → r ≡ r′
+replace-one κs a r r′ s s′ p q = p ∙ sym q
+
+pub free-one : (κs : _) (a : _) (r r′ : _) (s s′ : _) → free-reads.Post κs a r s → free-reads.Post κs a r′ s′ → r ≡ r′
+free-one κs a r r′ s s′ p q = p ∙ sym q
+
+pub fill-one : (κs : _) (a : _) (r r′ : _) (s s′ : _) → fill-reads.Post κs a r s → fill-reads.Post κs a r′ s′ → r ≡ r′
+fill-one κs a r r′ s s′ p q = p ∙ sym q
 
 pub sound-one : (κs : _) (a : _) (r r′ : _) (s s′ : _) → sound-reads.Post κs a r s → sound-reads.Post κs a r′ s′ → r ≡ r′
 sound-one κs a r r′ s s′ p q = p ∙ sym q

@@ -1,18 +1,22 @@
 -- Records read back from a table, and where the searches find them.
 -- Assumes nothing.
-use mathlib.Core.Path.{_≡_, refl}
+use mathlib.Core.Path.{_≡_, refl, sym, ap, _∙_}
 use mathlib.Core.Bool.{Bool, true, false}
 use mathlib.Core.Logic.{_⊎_, inl, inr}
-use Prim.Native.Nat.{ℕ, _≤_, _<_}
+use mathlib.Core.List.{List, [], _∷_}
+use Prim.Native.Nat.{ℕ, zero, suc, _≤_, _<_}
+use native.Mathlib.Omega.{arith}
 use borrow.Author.Tests.{eqb-true, eqb-false, not-true}
 use lib.Dec.{eqb}
-use lib.ListN.{length}
+use lib.ListN.{length, getD}
 use lib.Seq.{set-out, getD-set-same, getD-set-other}
 use Rattle.lists.proofs.Places.{place-passes, place-none, place-all}
 use Rattle.channel.specs.declared.Record.{Record}
 use Rattle.channel.specs.Channel.{blank}
+use Rattle.table.proofs.Twice.{holds-says}
 use Rattle.table.specs.declared.Table.{Table}
-use Rattle.table.specs.Table.{holds, isFree, numberPlace, freePlace, recordAt, withRecord}
+use Rattle.table.specs.declared.Found.{Found}
+use Rattle.table.specs.Table.{holds, isFree, numberPlace, freePlace, recordAt, withRecord, foundIn}
 
 -- ---- after a record is set
 
@@ -36,11 +40,30 @@ at-any t k r h i = go (eqb i k) refl
     go true e = let same = eqb-true i k e in inl (same, rw same (at-same t k r h))
     go false e = inr (eqb-false i k e, at-other t k i r (eqb-false i k e))
 
+-- a place that the table doesn't have
+pub at-past : (rs : List Record) (k : ℕ) → length rs ≤ k → getD rs k blank ≡ blank
+at-past [] k h = refl
+at-past (r ∷ rs) zero h = absurd (omega arith)
+at-past (r ∷ rs) (suc k) h = at-past rs k (omega arith)
+
 -- ---- what a search finds
+
+pub found-there : (n : ℕ) (t : Table) (k : ℕ) → k ≡ numberPlace n t → _≡_ {A = Found} (record { place = k; row = recordAt t k }) (foundIn n t)
+unfolding foundIn
+found-there n t k e = ap (λ (j : ℕ). record { place = j; row = recordAt t j }) e
+
+pub found-none : (n : ℕ) (t : Table) (k : ℕ) (r : Record) → length (t .records) ≤ k → r ≡ blank → k ≡ numberPlace n t → _≡_ {A = Found} (record { place = k; row = r }) (foundIn n t)
+unfolding recordAt
+found-none n t k r h f e = ap (λ (x : Record). record { place = k; row = x }) (f ∙ sym (at-past (t .records) k h)) ∙ found-there n t k e
 
 pub number-holds : (n : ℕ) (t : Table) → numberPlace n t < length (t .records) → holds n (recordAt t (numberPlace n t)) ≡ true
 unfolding numberPlace recordAt
 number-holds n t h = place-passes (holds n) (t .records) blank h
+
+-- a record that is found is open
+pub found-taken : (n : ℕ) (t : Table) (f : Found) → f ≡ foundIn n t → f .place < length (t .records) → f .row .taken ≡ true
+unfolding foundIn
+found-taken n t f e h = rw e (holds-says n _ (number-holds n t (rw e at h)) .0)
 
 pub number-none : (n : ℕ) (t : Table) → length (t .records) ≤ numberPlace n t → (i : ℕ) → holds n (recordAt t i) ≡ false
 unfolding numberPlace recordAt holds

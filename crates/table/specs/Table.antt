@@ -8,6 +8,7 @@ use Rattle.lists.specs.Places.{place}
 use Rattle.channel.specs.declared.Record.{Record}
 use Rattle.channel.specs.Channel.{blank}
 use Rattle.table.specs.declared.Table.{Table}
+use Rattle.table.specs.declared.Found.{Found}
 
 -- "an empty table, not ready, all its numbers 0 and its stages idle"
 unfoldable pub emptyTable : Table
@@ -31,6 +32,10 @@ freePlace t = place isFree (t .records)
 
 unfoldable pub recordAt : Table → ℕ → Record
 recordAt t k = getD (t .records) k blank
+
+-- where a number stands, and the record there
+unfoldable pub foundIn : ℕ → Table → Found
+foundIn n t = record { place = numberPlace n t; row = recordAt t (numberPlace n t) }
 
 -- the table with a record at a place; a place that it doesn't have leaves it as it is
 unfoldable pub withRecord : Table → ℕ → Record → Table

@@ -6,10 +6,10 @@ use channel::Stage;
 use paper::MESSAGE_MAX;
 use paper::PARTS;
 ghost use mathlib.Core.Path.{_≡_};
-ghost use mathlib.Core.Bool.{true};
+ghost use mathlib.Core.Bool.{true, not, _&&_, _||_};
 ghost use lib.ListN.{drop};
 ghost use Rattle.channel.specs.Channel.{blank};
-ghost use Rattle.table.specs.Table.{emptyTable, holds, recordAt, withRecord, numberPlace, freePlace};
+ghost use Rattle.table.specs.Table.{emptyTable, holds, withRecord, numberPlace, freePlace, foundIn};
 ghost use Rattle.table.specs.Sound.{some, every, noNumberTwice, goodStage, goodRecord, goodLevel, soundTable};
 
 pub struct Table {
@@ -17,6 +17,13 @@ pub struct Table {
     // 1 or 2 when ready.
     pub level: u8,
     pub records: [Record; PARTS],
+}
+
+// Where a number stands: the place of the record that holds it, and the record. Where none holds it, the place is sixteen
+// and the record a free one.
+pub struct Found {
+    pub place: usize,
+    pub row: Record,
 }
 
 // A free record, as Start makes it.
@@ -43,51 +50,30 @@ pub fn empty() -> Table
     }
 }
 
-// The record at a place. A place that the table doesn't have reads as a free record.
-pub fn record_at(table: Table, k: usize) -> Record
-    ensures { λ r. ⌜ r ≡ recordAt table k ⌝ }
-{
-    if PARTS <= k {
-        return blank();
-    }
-    table.records[k]
-}
-
-// The table with the record at a place. A place that it doesn't have leaves it as it is.
-pub fn with_record(table: Table, k: usize, record: Record) -> Table
-    ensures { λ r. ⌜ r ≡ withRecord table k «record» ⌝ }
-{
-    if PARTS <= k {
-        return table;
-    }
-    let mut next = table;
-    next.records[k] = record;
-    next
-}
-
 // Whether the record is open with the number.
 fn holds(record: Record, number: u32) -> bool
     ensures { λ r. ⌜ r ≡ holds number «record» ⌝ }
 {
-    record.taken && record.number == number
+    record.number == number && record.taken
 }
 
-// The place of the record that holds the number, or sixteen where none does.
-pub fn find_number(table: Table, number: u32) -> usize
-    ensures { λ r. ⌜ r ≡ numberPlace number table ⌝ }
+// The search for the record that holds the number.
+pub fn find_number(table: Table, number: u32) -> Found
+    ensures { λ r. ⌜ r ≡ foundIn number table ⌝ }
 {
     let mut k = 0;
-    let place = loop {
+    let found = loop {
         if k == PARTS {
-            break k;
+            let row = blank();
+            break Found { place: k, row };
         }
-        let record = table.records[k];
-        if holds(record, number) {
-            break k;
+        let row = table.records[k];
+        if holds(row, number) {
+            break Found { place: k, row };
         }
         k += 1;
     };
-    place
+    found
 }
 
 // The place of the lowest-numbered free record, or sixteen where none is free.
@@ -106,6 +92,81 @@ pub fn find_free(table: Table) -> usize
         i += 1;
     };
     k
+}
+
+// Whether a record is the first that passes a search.
+fn first(passes: bool, done: bool) -> bool
+    ensures { λ r. ⌜ r ≡ (passes && not done) ⌝ }
+{
+    passes && !done
+}
+
+fn either(a: bool, b: bool) -> bool
+    ensures { λ r. ⌜ r ≡ (a || b) ⌝ }
+{
+    a || b
+}
+
+// The three updates below search again in place of taking an index, and go on after the record that they set: compiled,
+// each record is then compared and set where it stands. An index that isn't a constant makes the compiler write the whole
+// table out and read it back. Each has one caller, so that it is compiled into it.
+
+// The table with another record in the place of the one that holds the number. Where none holds it, the table stays.
+pub fn replace(table: Table, number: u32, record: Record) -> Table
+    ensures { λ r. ⌜ r ≡ withRecord table (numberPlace number table) «record» ⌝ }
+{
+    let mut next = table;
+    let mut done = false;
+    let mut i = 0;
+    while i < PARTS {
+        let old = table.records[i];
+        let hit = first(holds(old, number), done);
+        if hit {
+            next.records[i] = record;
+        }
+        done = either(done, hit);
+        i += 1;
+    }
+    next
+}
+
+// The table with the record that holds the number free again. Where none holds it, the table stays.
+pub fn free(table: Table, number: u32) -> Table
+    ensures { λ r. ⌜ r ≡ withRecord table (numberPlace number table) blank ⌝ }
+{
+    let spare = blank();
+    let mut next = table;
+    let mut done = false;
+    let mut i = 0;
+    while i < PARTS {
+        let old = table.records[i];
+        let hit = first(holds(old, number), done);
+        if hit {
+            next.records[i] = spare;
+        }
+        done = either(done, hit);
+        i += 1;
+    }
+    next
+}
+
+// The table with a new record in its lowest-numbered free place. A full table stays.
+pub fn fill(table: Table, fresh: Record) -> Table
+    ensures { λ r. ⌜ r ≡ withRecord table (freePlace table) fresh ⌝ }
+{
+    let mut next = table;
+    let mut done = false;
+    let mut i = 0;
+    while i < PARTS {
+        let old = table.records[i];
+        let hit = first(!old.taken, done);
+        if hit {
+            next.records[i] = fresh;
+        }
+        done = either(done, hit);
+        i += 1;
+    }
+    next
 }
 
 // Whether a record from the place on holds the number.

@@ -15,6 +15,13 @@ Inv-loop rounds file store₀ reply₀ tally₀ left₀ store reply tally left =
 abbrev μ-loop : tie.MeasureT-loop
 μ-loop rounds file store₀ reply₀ tally₀ left₀ store reply tally left = left
 
+slice-aggregate-arg : tie.Need-slice-aggregate-arg Inv-loop μ-loop
+unfolding STORE
+slice-aggregate-arg c = search needs
+
+arg-requires : tie.Need-arg-requires Inv-loop μ-loop
+arg-requires c κs = search needs
+
 loop-holds : tie.Need-loop-holds Inv-loop μ-loop
 unfolding STORE REPLY-MIN
 loop-holds c = (search needs, search needs, search needs, λ e. refl)
@@ -48,6 +55,8 @@ run-spec =
     (tie.spec
     Inv-loop
     μ-loop
+    slice-aggregate-arg
+    arg-requires
     loop-holds
     slice-aggregate-one-round
     slice-aggregate-one-round-2

@@ -4,20 +4,19 @@ use mathlib.Core.Bool.{Bool, true, false}
 use mathlib.Core.List.{List}
 use Prim.Native.Nat.{ℕ}
 use denote.Ref.{now}
-use borrow.Author.Tests.{not-true, not-false}
 use Rattle.paper.specs.Sizes.{PARTS, PART}
 use Rattle.lists.specs.Bytes.{zeros}
 use Rattle.laying.specs.Laying.{closeBytes}
 use Rattle.channel.specs.declared.Record.{Record}
 use Rattle.channel.specs.declared.Answer.the-variants.{Closed}
 use Rattle.channel.specs.Channel.{Shut, Open, Room, act, did, blank}
-use Rattle.table.specs.Table.{recordAt}
+use Rattle.table.specs.Table.{recordAt, withRecord}
 use Rattle.store.specs.Parts.{part}
 use Rattle.store.proofs.Parts.{there, cleared-there}
 use Rattle.client.specs.State.{stateOf, save, wrote, roomIn}
 use Rattle.client.specs.Events.{closeAct}
 use Rattle.client.specs.Client.{finished}
-use Rattle.client.proofs.Steps.{too-early, in-time, view-shut, view-open, gives-answer, gives-wrote}
+use Rattle.client.proofs.Steps.{in-time, view-shut, view-open, gives-answer, gives-wrote}
 use borrow.Author.Needs.{needs}
 use Rattle.client.proofs.on_close.Statement.{statement}
 use Rattle.client.proofs.on_close.Tie as tie
@@ -32,32 +31,22 @@ refused-requires : tie.Need-refused-requires
 refused-requires c κs = search needs
 
 returns : tie.Need-returns
+unfolding act finished save PARTS
 returns c =
     let a = c .before .before .before .before .before .args in
+    let pre = c .before .before .before .before .before .pre in
     let st = stateOf (a .table) (now (a .store)) in
-    gives-answer _ st _ _ _ (too-early st (a .number) (closeAct (a .local)) (not-true _ (c .before .if1 .taken))) (c .refused .ensures)
-
-find-number-requires : tie.Need-find-number-requires
-find-number-requires c κs = search needs
-
-refused-requires-2 : tie.Need-refused-requires-2
-refused-requires-2 c κs = search needs
+    let shut = view-shut (a .number) st (a .k) (pre .2) (c .before .before .if1 .taken) in
+    rw (c .before .if2 .taken) (gives-answer _ st _ _ _ (in-time st (a .number) (closeAct true) Shut (pre .1) shut) (c .refused .ensures))
 
 returns-2 : tie.Need-returns-2
 unfolding act finished save PARTS
 returns-2 c =
-    let a = c .before .before .before .before .before .before .before .before .args in
+    let a = c .before .before .before .before .args in
+    let pre = c .before .before .before .before .pre in
     let st = stateOf (a .table) (now (a .store)) in
-    let shut = view-shut (a .number) st _ (c .before .before .before .find-number .ensures) (c .before .before .if2 .taken) in
-    rw (c .before .if3 .taken) (gives-answer _ st _ _ _ (in-time st (a .number) (closeAct true) Shut (not-false _ (c .before .before .before .before .if1 .left)) shut) (c .refused2 .ensures))
-
-returns-3 : tie.Need-returns-3
-unfolding act finished save PARTS
-returns-3 c =
-    let a = c .before .before .before .before .before .before .before .args in
-    let st = stateOf (a .table) (now (a .store)) in
-    let shut = view-shut (a .number) st _ (c .before .before .find-number .ensures) (c .before .if2 .taken) in
-    rw (c .if3 .left) (gives-answer _ st _ _ _ (in-time st (a .number) (closeAct false) Shut (not-false _ (c .before .before .before .if1 .left)) shut) refl)
+    let shut = view-shut (a .number) st (a .k) (pre .2) (c .before .if1 .taken) in
+    rw (c .if2 .left) (gives-answer _ st _ _ _ (in-time st (a .number) (closeAct false) Shut (pre .1) shut) refl)
 
 clear-part-requires : tie.Need-clear-part-requires
 clear-part-requires c κs = search needs
@@ -65,11 +54,8 @@ clear-part-requires c κs = search needs
 close-requires : tie.Need-close-requires
 close-requires c κs = search needs
 
-blank-requires : tie.Need-blank-requires
-blank-requires c κs = search needs
-
-with-record-requires : tie.Need-with-record-requires
-with-record-requires c κs = search needs
+free-requires : tie.Need-free-requires
+free-requires c κs = search needs
 
 same-length : tie.Need-same-length
 same-length c = search needs
@@ -77,20 +63,20 @@ same-length c = search needs
 same-length-2 : tie.Need-same-length-2
 same-length-2 c = search needs
 
-returns-4 : tie.Need-returns-4
+returns-3 : tie.Need-returns-3
 unfolding finished save PARTS
-returns-4 c =
-    let a = c .before .before .before .before .before .before .before .before .before .before .before .before .before .before .before .before .args in
+returns-3 c =
+    let a = c .before .before .before .before .before .before .before .before .before .before .before .before .args in
+    let pre = c .before .before .before .before .before .before .before .before .before .before .before .before .pre in
     let st = stateOf (a .table) (now (a .store)) in
-    let k = c .before .before .before .before .before .before .before .before .before .before .before .find-number .result in
-    let place = c .before .before .before .before .before .before .before .before .before .before .before .find-number .ensures in
-    let is-open = view-open (a .number) st k place (c .before .before .before .before .before .before .before .before .before .before .if2 .left) in
+    let is-open = view-open (a .number) st (a .k) (pre .2) (c .before .before .before .before .before .before .before .before .before .if1 .left) in
     let step =
-    in-time st (a .number) (closeAct (a .local)) _ (not-false _ (c .before .before .before .before .before .before .before .before .before .before .before .before .if1 .left)) is-open
-    ∙ ap (finished (a .number) st (Open (recordAt (a .table) k) (part (now (a .store)) k))) (closes (a .local) (a .table .level) (a .number) (recordAt (a .table) k) (part (now (a .store)) k) (roomIn st))
-    ∙ ap (λ (j : ℕ). record { state = wrote st j blank (zeros PART); answer = Closed (a .number); reply = closeBytes (a .number) }) (sym place) in
-    let laying = c .before .before .before .before .close .ensures in
-    gives-wrote _ st k blank (zeros PART) (Closed (a .number)) (closeBytes (a .number)) _ _ _ _ step (simp (c .with-record .ensures, c .before .blank .ensures, laying .0)) (c .before .before .before .before .before .before .before .before .clear-part .ensures ∙ cleared-there (now (a .store)) k (there (now (a .store)) k (c .before .before .before .before .before .before .before .before .before .before .before .before .before .before .before .before .pre) (c .before .before .before .before .before .before .before .before .before .before .if2 .left))) (laying .1)
+    in-time st (a .number) (closeAct (a .local)) _ (pre .1) is-open
+    ∙ ap (finished (a .number) st (Open (recordAt (a .table) (a .k)) (part (now (a .store)) (a .k)))) (closes (a .local) (a .table .level) (a .number) (recordAt (a .table) (a .k)) (part (now (a .store)) (a .k)) (roomIn st))
+    ∙ ap (λ (j : ℕ). record { state = wrote st j blank (zeros PART); answer = Closed (a .number); reply = closeBytes (a .number) }) (sym (pre .2)) in
+    let freed = c .free .ensures ∙ ap (λ (j : ℕ). withRecord (a .table) j blank) (sym (pre .2)) in
+    let laying = c .before .before .before .close .ensures in
+    gives-wrote _ st (a .k) blank (zeros PART) (Closed (a .number)) (closeBytes (a .number)) _ _ _ _ step (simp (freed, laying .0)) (c .before .before .before .before .before .before .before .clear-part .ensures ∙ cleared-there (now (a .store)) (a .k) (there (now (a .store)) (a .k) (pre .0) (c .before .before .before .before .before .before .before .before .before .if1 .left))) (laying .1)
 
 pub on-close-spec : {M : Type 1} → statement M
 on-close-spec =
@@ -98,14 +84,10 @@ on-close-spec =
     (tie.spec
     refused-requires
     returns
-    find-number-requires
-    refused-requires-2
     returns-2
-    returns-3
     clear-part-requires
     close-requires
-    blank-requires
-    with-record-requires
+    free-requires
     same-length
     same-length-2
-    returns-4)
+    returns-3)

@@ -1,15 +1,17 @@
--- `client::on_data` meets its contract: what `take` says of the record's stage lands at its place.
-use mathlib.Core.Path.{ap, _∙_}
+-- `client::on_data` meets its contract: what `take` says of the stage that was found lands at its place.
+use mathlib.Core.Path.{_≡_, ap}
 use denote.Ref.{now}
-use borrow.Author.Tests.{not-true, not-false}
 use lib.ListN.{length}
+use Rattle.lists.proofs.Arrays.{length-mapped}
 use Rattle.paper.specs.Sizes.{PARTS}
-use Rattle.channel.specs.Stages.{took}
+use Rattle.table.specs.declared.Found.{Found}
+use Rattle.table.specs.Table.{foundIn}
+use Rattle.table.proofs.Records.{found-taken}
 use Rattle.channel.specs.Channel.{act, Bring, Shut}
-use Rattle.channel.specs.declared.Record.{Record}
 use Rattle.client.specs.State.{stateOf, save}
 use Rattle.client.specs.Client.{finished}
-use Rattle.client.proofs.Steps.{too-early, in-time, view-shut, view-open, gives-answer}
+use Rattle.client.proofs.Steps.{in-time, view-shut, gives-answer}
+use Rattle.client.proofs.Landing.{gives-landed}
 use borrow.Author.Needs.{needs}
 use Rattle.client.proofs.on_data.Statement.{statement}
 use Rattle.client.proofs.on_data.Tie as tie
@@ -18,49 +20,47 @@ refused-requires : tie.Need-refused-requires
 refused-requires c κs = search needs
 
 returns : tie.Need-returns
+unfolding act finished save foundIn PARTS
 returns c =
-    let a = c .before .before .before .before .before .args in
+    let a = c .before .before .before .before .args in
+    let pre = c .before .before .before .before .pre in
     let st = stateOf (a .table) (now (a .store)) in
-    λ reply. gives-answer _ st _ reply _ (too-early st (a .number) (Bring (a .offer) (now (a .block))) (not-true _ (c .before .if1 .taken))) (c .refused .ensures)
-
-find-number-requires : tie.Need-find-number-requires
-find-number-requires c κs = search needs
-
-refused-requires-2 : tie.Need-refused-requires-2
-refused-requires-2 c κs = search needs
-
-returns-2 : tie.Need-returns-2
-unfolding act finished save PARTS
-returns-2 c =
-    let a = c .before .before .before .before .before .before .before .args in
-    let st = stateOf (a .table) (now (a .store)) in
-    let shut = view-shut (a .number) st _ (c .before .before .find-number .ensures) (c .before .if2 .taken) in
-    λ reply. gives-answer _ st _ reply _ (in-time st (a .number) (Bring (a .offer) (now (a .block))) Shut (not-false _ (c .before .before .before .if1 .left)) shut) (c .refused2 .ensures)
-
-record-at-requires : tie.Need-record-at-requires
-record-at-requires c κs = search needs
+    let shut = view-shut (a .number) st _ (ap (λ (f : Found). f .place) (pre .2)) (c .before .if1 .taken) in
+    λ reply. gives-answer _ st _ reply _ (in-time st (a .number) (Bring (a .offer) (now (a .block))) Shut (pre .1) shut) (c .refused .ensures)
 
 take-requires : tie.Need-take-requires
 take-requires c κs = search needs
 
-land-requires : tie.Need-land-requires
+put-requires : tie.Need-put-requires
+put-requires c κs = search needs
+
+stage-after-requires : tie.Need-stage-after-requires
+stage-after-requires c κs = search needs
+
+restaged-requires : tie.Need-restaged-requires
 unfolding PARTS
-land-requires c κs =
-    (c .before .before .before .before .before .before .before .before .before .pre, c .before .before .before .if2 .left, c .before .before .before .before .find-number .ensures)
+restaged-requires c κs =
+    let a = c .before .before .before .before .before .before .before .before .before .before .args in
+    let rows : length (a .table .records) ≡ PARTS = search (needs, length-mapped) in
+    found-taken (a .number) (a .table) (a .found) (c .before .before .before .before .before .before .before .before .before .before .pre .2) (rw rows (c .before .before .before .before .before .before .before .if1 .left))
+
+replace-requires : tie.Need-replace-requires
+replace-requires c κs = search needs
+
+answer-to-requires : tie.Need-answer-to-requires
+answer-to-requires c κs = search needs
 
 same-length : tie.Need-same-length
 same-length c = search needs
 
-returns-3 : tie.Need-returns-3
-unfolding act PARTS
-returns-3 c =
-    let a = c .before .before .before .before .before .before .before .before .before .before .before .before .args in
-    let st = stateOf (a .table) (now (a .store)) in
-    let k = c .before .before .before .before .before .before .before .find-number .result in
-    let is-open = view-open (a .number) st k (c .before .before .before .before .before .before .before .find-number .ensures) (c .before .before .before .before .before .before .if2 .left) in
-    let step = in-time st (a .number) (Bring (a .offer) (now (a .block))) _ (not-false _ (c .before .before .before .before .before .before .before .before .if1 .left)) is-open in
-    let stage = ap (λ (r : Record). took (r .stage) (a .offer) (length (now (a .block)))) (c .before .before .before .before .before .record-at .ensures) in
-    λ reply. rw step (rw (c .before .before .before .take .ensures ∙ stage) at (c .before .before .land .ensures reply))
+returns-2 : tie.Need-returns-2
+unfolding foundIn PARTS
+returns-2 c =
+    let a = c .before .before .before .before .before .before .before .before .before .before .before .before .before .args in
+    let pre = c .before .before .before .before .before .before .before .before .before .before .before .before .before .pre in
+    let place = ap (λ (f : Found). f .place) (pre .2) in
+    let row = ap (λ (f : Found). f .row) (pre .2) in
+    λ reply. gives-landed (a .number) (stateOf (a .table) (now (a .store))) (a .found .place) (a .found .row) (a .offer) (now (a .block)) _ reply _ _ (pre .0) (pre .1) (c .before .before .before .before .before .before .before .before .before .before .if1 .left) place (rw place row) (c .before .before .before .before .before .before .before .before .take .ensures) (simp (c .before .replace .ensures, c .before .before .restaged .ensures, c .before .before .before .stage-after .ensures, c .answer-to .ensures)) (c .before .before .before .before .before .before .put .ensures)
 
 pub on-data-spec : {M : Type 1} → statement M
 on-data-spec =
@@ -68,11 +68,11 @@ on-data-spec =
     (tie.spec
     refused-requires
     returns
-    find-number-requires
-    refused-requires-2
-    returns-2
-    record-at-requires
     take-requires
-    land-requires
+    put-requires
+    stage-after-requires
+    restaged-requires
+    replace-requires
+    answer-to-requires
     same-length
-    returns-3)
+    returns-2)

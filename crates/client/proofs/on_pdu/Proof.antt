@@ -1,18 +1,14 @@
--- `client::on_pdu` meets its contract: the function for what is carried gives the step of its event, and the places that reading
--- answers lie in the PDU.
-use mathlib.Core.Path.{sym, _∙_, refl, ap, subst}
+-- `client::on_pdu` meets its contract: what is carried gives the step of its event, and lies in the PDU.
+use mathlib.Core.Path.{refl, sym, ap, subst, _∙_}
 use mathlib.Core.Bool.{true}
 use denote.Ref.{now}
-use Rattle.lists.proofs.Laid.{from-to}
-use Rattle.reading.specs.Said.{bytesAt}
 use Rattle.reading.proofs.Placed.{placed}
 use Rattle.client.specs.State.{stateOf}
 use Rattle.client.specs.Events.{carriedBy, eventOf, eventFor}
 use Rattle.client.specs.Client.{stepped}
 use Rattle.client.proofs.Steps.{gives-answer}
-use Rattle.client.proofs.Within.{Within, within}
+use Rattle.client.proofs.Within.{Holds-it, within}
 use borrow.Author.Needs.{needs}
-use native.Mathlib.Omega.{arith}
 use Rattle.client.proofs.on_pdu.Statement.{statement}
 use Rattle.client.proofs.on_pdu.Tie as tie
 
@@ -37,56 +33,11 @@ on-capabilities-requires c κs = search needs
 enum-known-cargo-3 : tie.Need-enum-known-cargo-3
 enum-known-cargo-3 c = search needs
 
-add-end : tie.Need-add-end
-add-end c =
-    let a = c .before .before .before .before .before .before .before .before .before .before .args in
-    let found = sym (c .before .before .before .before .carried .ensures ∙ ap carriedBy (c .before .before .before .before .before .read .ensures)) ∙ c .before .before .cargo3 .given .1 in
-    omega (arith, subst (Within (now (a .pdu))) found (within (now (a .pdu)) _ (placed (now (a .pdu)) true)))
-
-sub-on-create : tie.Need-sub-on-create
-sub-on-create c = search needs
-
-part-on-create-start : tie.Need-part-on-create-start
-part-on-create-start c = search needs
-
-part-on-create-end : tie.Need-part-on-create-end
-part-on-create-end c =
-    let a = c .before .before .before .before .before .before .before .before .before .before .args in
-    let found = sym (c .before .before .before .before .carried .ensures ∙ ap carriedBy (c .before .before .before .before .before .read .ensures)) ∙ c .before .before .cargo3 .given .1 in
-    omega (arith, subst (Within (now (a .pdu))) found (within (now (a .pdu)) _ (placed (now (a .pdu)) true)))
-
-on-create-requires : tie.Need-on-create-requires
-on-create-requires c κs = search needs
-
-enum-known-cargo-4 : tie.Need-enum-known-cargo-4
-enum-known-cargo-4 c = search needs
-
-add-end-2 : tie.Need-add-end-2
-add-end-2 c =
-    let a = c .before .before .before .before .before .before .before .before .before .before .args in
-    let found = sym (c .before .before .before .before .carried .ensures ∙ ap carriedBy (c .before .before .before .before .before .read .ensures)) ∙ c .before .before .cargo4 .given .1 in
-    omega (arith, subst (Within (now (a .pdu))) found (within (now (a .pdu)) _ (placed (now (a .pdu)) true)))
-
-sub-on-data : tie.Need-sub-on-data
-sub-on-data c = search needs
-
-part-on-data-start : tie.Need-part-on-data-start
-part-on-data-start c = search needs
-
-part-on-data-end : tie.Need-part-on-data-end
-part-on-data-end c =
+on-channel-requires : tie.Need-on-channel-requires
+on-channel-requires c κs =
     let a = c .before .before .before .before .before .before .before .before .before .before .before .args in
-    let found = sym (c .before .before .before .before .before .carried .ensures ∙ ap carriedBy (c .before .before .before .before .before .before .read .ensures)) ∙ c .before .before .before .cargo4 .given .1 in
-    omega (arith, subst (Within (now (a .pdu))) found (within (now (a .pdu)) _ (placed (now (a .pdu)) true)))
-
-on-data-requires : tie.Need-on-data-requires
-on-data-requires c κs = search needs
-
-enum-known-cargo-5 : tie.Need-enum-known-cargo-5
-enum-known-cargo-5 c = search needs
-
-on-close-requires : tie.Need-on-close-requires
-on-close-requires c κs = search needs
+    let found = sym (c .before .before .before .before .before .carried .ensures ∙ ap carriedBy (c .before .before .before .before .before .before .read .ensures)) ∙ c .before .before .before .cargo3 .given .1 in
+    (c .before .before .before .before .before .before .before .before .before .before .before .pre, subst (Holds-it (now (a .pdu))) found (within (now (a .pdu)) _ (placed (now (a .pdu)) true)))
 
 returns : tie.Need-returns
 unfolding eventOf eventFor stepped
@@ -108,37 +59,14 @@ returns-2 c =
 same-length-2 : tie.Need-same-length-2
 same-length-2 c = search needs
 
-returns-3 : tie.Need-returns-3
-unfolding eventOf eventFor bytesAt
-returns-3 c =
-    let a = c .before .before .before .before .before .before .before .before .before .before .before .before .before .before .before .args in
-    let found = sym (c .before .before .before .before .before .before .before .before .before .carried .ensures ∙ ap carriedBy (c .before .before .before .before .before .before .before .before .before .before .read .ensures)) ∙ c .before .before .before .before .before .before .before .cargo3 .given .1 in
-    let name = c .before .before .before .before .before .before .before .cargo3 .given .0 .1 .1 .0 in
-    rw found (rw (from-to (now (a .pdu)) (name .at) (name .len)) at (c .before .before .on-create .ensures (now (a .store)) (c .before .before .before .before .before .before .before .before .before .before .before .before .before .before .before .pre)))
-
 same-length-3 : tie.Need-same-length-3
 same-length-3 c = search needs
 
-returns-4 : tie.Need-returns-4
-unfolding eventOf eventFor bytesAt
-returns-4 c =
-    let a = c .before .before .before .before .before .before .before .before .before .before .before .before .before .before .before .args in
-    let found = sym (c .before .before .before .before .before .before .before .before .before .carried .ensures ∙ ap carriedBy (c .before .before .before .before .before .before .before .before .before .before .read .ensures)) ∙ c .before .before .before .before .before .before .before .cargo4 .given .1 in
-    let block = c .before .before .before .before .before .before .before .cargo4 .given .0 .1 .1 .0 in
-    rw found (rw (from-to (now (a .pdu)) (block .at) (block .len)) at (c .before .before .on-data .ensures (now (a .reply))))
-
-same-length-4 : tie.Need-same-length-4
-same-length-4 c = search needs
-
-same-length-5 : tie.Need-same-length-5
-same-length-5 c = search needs
-
-returns-5 : tie.Need-returns-5
+returns-3 : tie.Need-returns-3
 unfolding eventOf eventFor
-returns-5 c =
-    let a = c .before .before .before .before .before .before .before .before .before .before .before .before .before .before .before .before .args in
-    let found = sym (c .before .before .before .before .before .before .before .before .before .before .carried .ensures ∙ ap carriedBy (c .before .before .before .before .before .before .before .before .before .before .before .read .ensures)) ∙ c .before .before .before .before .before .before .before .before .cargo5 .given .1 in
-    rw found (c .before .before .before .before .on-close .ensures)
+returns-3 c =
+    let found = sym (c .before .before .before .before .before .before .before .before .before .before .carried .ensures ∙ ap carriedBy (c .before .before .before .before .before .before .before .before .before .before .before .read .ensures)) ∙ c .before .before .before .before .before .before .before .before .cargo3 .given .1 in
+    rw found (c .before .before .before .before .on-channel .ensures)
 
 pub on-pdu-spec : {M : Type 1} → statement M
 on-pdu-spec =
@@ -151,26 +79,10 @@ on-pdu-spec =
     enum-known-cargo-2
     on-capabilities-requires
     enum-known-cargo-3
-    add-end
-    sub-on-create
-    part-on-create-start
-    part-on-create-end
-    on-create-requires
-    enum-known-cargo-4
-    add-end-2
-    sub-on-data
-    part-on-data-start
-    part-on-data-end
-    on-data-requires
-    enum-known-cargo-5
-    on-close-requires
+    on-channel-requires
     returns
     same-length
     returns-2
     same-length-2
-    returns-3
     same-length-3
-    returns-4
-    same-length-4
-    same-length-5
-    returns-5)
+    returns-3)

@@ -1,18 +1,58 @@
--- `numbers::four` meets its contract: the bytes are laid over four zeros.
-use Rattle.lists.specs.Bytes.{zeros}
+-- `numbers::four` meets its contract: the bytes before i are laid over four zeros, and those from i on are still to come.
+use mathlib.Core.Path.{_≡_, refl, sym, _∙_}
+use mathlib.Core.Logic.{⊎-elim}
+use Prim.Native.Nat.{_-_, _≤_}
+use lib.ListN.{length, drop, length-set}
+use Rattle.lists.specs.Bytes.{laid, zeros}
+use Rattle.lists.proofs.Laid.{laid-turn, laid-rest, laid-past}
 use borrow.Author.Needs.{needs}
+use native.Mathlib.Omega.{arith}
 use Rattle.numbers.proofs.four.Statement.{statement}
 use Rattle.numbers.proofs.four.Tie as tie
 
-slice-aggregate-copy : tie.Need-slice-aggregate-copy
-slice-aggregate-copy c = search needs
+abbrev Inv-loop : tie.InvT-loop
+Inv-loop bytes scratch₀ i₀ scratch i = (i ≤ 4) × (length scratch ≡ 4) × (laid scratch i (drop i bytes) ≡ laid (zeros 4) 0 bytes)
 
-copy-requires : tie.Need-copy-requires
-copy-requires c κs = search needs
+abbrev μ-loop : tie.MeasureT-loop
+μ-loop bytes scratch₀ i₀ scratch i = 4 - i
 
-returns : tie.Need-returns
+loop-holds : tie.Need-loop-holds Inv-loop μ-loop
 unfolding zeros
-returns c = c .before .copy .ensures
+loop-holds c = (omega arith, refl, refl)
+
+shared-slice-read-scratch : tie.Need-shared-slice-read-scratch Inv-loop μ-loop
+shared-slice-read-scratch c = search needs
+
+array-write-scratch : tie.Need-array-write-scratch Inv-loop μ-loop
+array-write-scratch c = search needs
+
+add-i : tie.Need-add-i Inv-loop μ-loop
+add-i c = search needs
+
+loop-less : tie.Need-loop-less Inv-loop μ-loop
+loop-less c = search needs
+
+loop-again : tie.Need-loop-again Inv-loop μ-loop
+loop-again c =
+    let l = c .before .before .loop in
+    ⊎-elim
+    (λ w. (omega arith, rw (w .2) (simp length-set (l .inv .1)), rw (w .2) (laid-turn _ _ (l .i) (w .0 .taken) ∙ l .inv .2)))
+    (λ w. (omega arith, rw (w .1) (l .inv .1), rw (w .1) (laid-rest _ _ (l .i) (w .0 .left) ∙ l .inv .2)))
+    (c .if1 .came)
+
+returns : tie.Need-returns Inv-loop μ-loop
+returns c = let l = c .before .loop in sym (laid-past _ (l .i) _ (omega arith)) ∙ l .inv .2
 
 pub four-spec : {M : Type 1} → statement M
-four-spec = tie.close (tie.spec slice-aggregate-copy copy-requires returns)
+four-spec =
+    tie.close
+    (tie.spec
+    Inv-loop
+    μ-loop
+    loop-holds
+    shared-slice-read-scratch
+    array-write-scratch
+    add-i
+    loop-less
+    loop-again
+    returns)

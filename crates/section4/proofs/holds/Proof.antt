@@ -1,5 +1,5 @@
 -- `section4::holds` meets its contract: the bytes compared are the front of the channel's own part.
-use mathlib.Core.Path.{sym, _∙_}
+use mathlib.Core.Path.{sym, ap, _∙_}
 use Prim.Native.Nat.{_*_}
 use denote.Ref.{now}
 use lib.ListN.{length, drop}
@@ -7,6 +7,8 @@ use lib.Seq.{take-take}
 use Rattle.paper.specs.Sizes.{PART, MESSAGE-MAX}
 use Rattle.lists.proofs.Laid.{from-to}
 use Rattle.lists.proofs.Cases.{true-not-false}
+use Rattle.table.specs.declared.Found.{Found}
+use Rattle.table.specs.Table.{foundIn}
 use Rattle.store.specs.Parts.{part}
 use borrow.Author.Needs.{needs}
 use native.Mathlib.Omega.{arith}
@@ -56,14 +58,15 @@ say-requires-4 : tie.Need-say-requires-4
 say-requires-4 c κs = search needs
 
 returns-4 : tie.Need-returns-4
-unfolding part PART MESSAGE-MAX
+unfolding part PART MESSAGE-MAX foundIn
 returns-4 c =
     λ e.
     let a = c .before .before .before .before .before .before .before .before .before .before .args in
-    let k = c .before .before .before .before .before .before .find-number .result in
+    let k = c .before .before .before .before .before .before .find-number .result .place in
+    let place = ap (λ (f : Found). f .place) (c .before .before .before .before .before .before .find-number .ensures) in
     let want = now (a .want) in
     let found = c .before .same .ensures .0 (sym (c .say4 .ensures) ∙ e) in
-    rw (← (c .before .before .before .before .before .before .find-number .ensures)) (take-take (length want) 4096 (drop (4096 * k) (now (a .store))) (omega arith) ∙ sym (from-to (now (a .store)) (4096 * k) (length want)) ∙ found)
+    rw (← place) (take-take (length want) 4096 (drop (4096 * k) (now (a .store))) (omega arith) ∙ sym (from-to (now (a .store)) (4096 * k) (length want)) ∙ found)
 
 pub holds-spec : {M : Type 1} → statement M
 holds-spec =
