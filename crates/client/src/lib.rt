@@ -18,19 +18,21 @@ use table::Found;
 use table::Table;
 ghost use mathlib.Core.Path.{_≡_};
 ghost use mathlib.Core.List.{List};
-ghost use Prim.Native.Nat.{ℕ, _-_, min};
+ghost use Prim.Native.Nat.{ℕ, _-_, _<_, min};
 ghost use lib.ListN.{length};
-ghost use Rattle.paper.specs.Sizes.{STORE};
+ghost use Rattle.paper.specs.Sizes.{PARTS, STORE};
 ghost use Rattle.paper.specs.Statuses.{OPENED};
 ghost use mathlib.Core.Bool.{true};
 ghost use Rattle.lists.specs.Bytes.{laid};
 ghost use Rattle.reading.specs.Reading.{readPdu};
 ghost use Rattle.laying.specs.Laying.{createResponseBytes};
-ghost use Rattle.channel.specs.Channel.{restaged, classAt, openedRecord, Bring};
+ghost use Rattle.channel.specs.declared.Stage.{Stage};
+ghost use Rattle.channel.specs.Stages.{Barred};
+ghost use Rattle.channel.specs.Channel.{restaged, classAt, openedRecord, Bring, stageAfter, partAfter, answerTo};
 ghost use Rattle.table.specs.Table.{numberPlace, freePlace, withRecord, foundIn};
+ghost use Rattle.store.specs.Parts.{part, withPart};
 ghost use Rattle.client.specs.State.{stateOf};
 ghost use Rattle.client.specs.Events.{Capabilities, Of, createAct, closeAct, Within, carriedBy, actFor, eventOf};
-ghost use Rattle.client.specs.Landing.{stageAfter, answerTo, storeAfter};
 ghost use Rattle.client.specs.Client.{Gives, stepped, badCall, received, locallyClosed, started, storeStarted};
 
 // Whether Start did its work.
@@ -203,7 +205,7 @@ fn answer_to(number: u32, took: Took) -> Answer
 
 // The stage that data leaves. What bars it is that the channel is spoiled.
 fn stage_after(took: Took) -> Stage
-    ensures { λ r. ⌜ r ≡ stageAfter took ⌝ }
+    ensures { λ r. ⌜ ((stage : Stage) → Barred stage took → r ≡ stageAfter stage took) ⌝ }
 {
     match took {
         Took::Bars(_) => Stage::Spoiled,
@@ -219,7 +221,8 @@ fn stage_after(took: Took) -> Stage
 
 // The block goes into the part at place k, unless it is refused.
 fn put(store: &mut [u8], k: usize, block: &[u8], took: Took)
-    ensures { λ _. ⌜ now (store .exit) ≡ storeAfter (now (store .entry)) k (now (block .entry)) took ⌝ }
+    requires { ⌜ (length (now store) ≡ STORE) × (k < PARTS) ⌝ }
+    ensures { λ _. ⌜ now (store .exit) ≡ withPart (now (store .entry)) k (partAfter (part (now (store .entry)) k) (now (block .entry)) took) ⌝ }
 {
     match took {
         Took::Bars(_) => {}

@@ -27,7 +27,7 @@ use Rattle.channel.specs.declared.Answer.the-variants.{Held, Message, Refused}
 use Rattle.channel.specs.declared.Took.{Took}
 use Rattle.channel.specs.declared.Took.the-variants.{Holds, Finishes}
 use Rattle.channel.specs.Stages.{added, begun, took}
-use Rattle.channel.specs.Channel.{Bring, View, Open, Room, restaged, landed, act}
+use Rattle.channel.specs.Channel.{Bring, View, Open, Room, restaged, stageAfter, partAfter, answerTo, landed, act}
 use Rattle.client.specs.State.{State, view, roomIn}
 use Rattle.client.specs.Events.{Event, Unreadable, Capabilities, Of, eventOf, eventFor, actFor, carriedBy}
 use Rattle.client.specs.Client.{stepped}
@@ -170,7 +170,7 @@ module _ (n : ℕ) (m : List ℕ) (small-number : n < 4294967296) (short-enough 
   stageThen at false = Idle
 
   landed-at : (at : ℕ) (r : Record) (part : List ℕ) → length part ≡ PART → at ≤ length m → take at part ≡ take at m → (t : Bool) → ltb (blockEnd n (length m) at) (length m) ≡ t → (toldBy (landed n r part (block n m at) (cond t (Holds (length m) at (blockEnd n (length m) at)) (Finishes at (length m)))) ≡ toldOnce at t) × (landed n r part (block n m at) (cond t (Holds (length m) at (blockEnd n (length m) at)) (Finishes at (length m))) .view ≡ Open (restaged r (stageThen at t)) (laid part at (block n m at)))
-  unfolding landed firstOf
+  unfolding landed stageAfter partAfter answerTo restaged firstOf
   landed-at at r part long h same true e = (refl, refl)
   landed-at at r part long h same false e =
       let w = end-within n (length m) at h in

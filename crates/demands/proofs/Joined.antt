@@ -30,7 +30,7 @@ use Rattle.channel.specs.declared.Offer.{Offer}
 use Rattle.channel.specs.declared.Offer.the-variants.{First, More}
 use Rattle.channel.specs.declared.Took.the-variants.{Bars, Spoils, Holds, Finishes}
 use Rattle.channel.specs.Stages.{added, begun, took}
-use Rattle.channel.specs.Channel.{Act, BadCreate, Create, Bring, Closing, LocalClose, View, Shut, Open, Did, openedRecord, restaged, opening, landed, act}
+use Rattle.channel.specs.Channel.{Act, BadCreate, Create, Bring, Closing, LocalClose, View, Shut, Open, Did, openedRecord, restaged, opening, stageAfter, partAfter, answerTo, landed, act}
 use Rattle.table.specs.Sound.{goodStage}
 use Rattle.table.proofs.Soundness.{joining-bounds, joining-good}
 use Rattle.client.specs.Events.{Event, Unreadable, Capabilities, Of, createAct, eventOf, eventFor, actFor, carriedBy}
@@ -71,12 +71,12 @@ pdu-part = lit≤ tt
 
 module _ (n : ℕ) (r : Record) (part : List ℕ) (whole : length part ≡ PART) where
   spoils-agrees : (block : List ℕ) (why : Refusal) → Agrees (landed n r part block (Spoils why)) (still Dead)
-  unfolding landed restaged goodStage broughtBy
+  unfolding landed stageAfter partAfter answerTo restaged goodStage broughtBy
   spoils-agrees block why = record { stands = refl; brings = refl; sound = (whole, refl) }
 
   -- a spoiled channel stays so
   bars-agrees : r .stage ≡ Spoiled → (block : List ℕ) (why : Refusal) → Agrees (landed n r part block (Bars why)) (still Dead)
-  unfolding landed goodStage broughtBy
+  unfolding landed stageAfter partAfter answerTo restaged goodStage broughtBy
   bars-agrees e block why = record { stands = rw e; brings = refl; sound = (whole, rw e) }
 
   module _ (wanted held : ℕ) (block : List ℕ) (small : wanted ≤ MESSAGE-MAX) (inside : held ≤ wanted) where
@@ -93,14 +93,14 @@ module _ (n : ℕ) (r : Record) (part : List ℕ) (whole : length part ≡ PART)
 
     -- all of it has come
     all-come : held + length block ≡ wanted → Agrees (landed n r part block (Finishes held wanted)) (record { join = Quiet; brings = Whole (take held part ++ block) })
-    unfolding landed restaged goodStage broughtBy firstOf
+    unfolding landed stageAfter partAfter answerTo restaged goodStage broughtBy firstOf
     all-come e =
         let up-bytes : take wanted (laid part held block) ≡ take held part ++ block = rw (← e) (got-bytes (omega arith)) in
         record { stands = refl; brings = ap Whole up-bytes; sound = (laid-whole, refl) }
 
     -- some of it is still to come
     some-come : held + length block < wanted → Agrees (landed n r part block (Holds wanted held (held + length block))) (record { join = Gathering wanted (take held part ++ block); brings = StillToCome (wanted - (held + length block)) })
-    unfolding landed restaged broughtBy
+    unfolding landed stageAfter partAfter answerTo restaged broughtBy
     some-come e = record { stands = ap (Gathering wanted) (got-bytes (omega arith)); brings = refl; sound = (laid-whole, joining-good wanted (held + length block) e small) }
 
     add-agrees : Agrees (landed n r part block (added wanted held (length block))) (gathered wanted (take held part ++ block))
@@ -124,7 +124,7 @@ module _ (n : ℕ) (r : Record) (part : List ℕ) (whole : length part ≡ PART)
 
   -- a block that is one message
   one-agrees : (block : List ℕ) → length block ≤ PART → Agrees (landed n r part block (Finishes 0 (length block))) (startsWith More block)
-  unfolding landed restaged goodStage broughtBy firstOf startsWith
+  unfolding landed stageAfter partAfter answerTo restaged goodStage broughtBy firstOf startsWith
   one-agrees block h = record { stands = refl; brings = ap Whole (front part block (omega arith)); sound = (length-laid part 0 block ∙ whole, refl) }
 
   bring-agrees : (s : Stage) → r .stage ≡ s → goodStage s ≡ true → (offer : Offer) (block : List ℕ) → length block ≤ PART → Agrees (landed n r part block (took s offer (length block))) (joins (joinAt s part) (Bring offer block))

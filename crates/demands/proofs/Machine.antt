@@ -26,7 +26,7 @@ use Rattle.channel.specs.declared.Took.the-variants.{Bars, Spoils, Holds, Finis
 use Rattle.channel.specs.declared.Answer.{Answer}
 use Rattle.channel.specs.declared.Answer.the-variants.{Ready, Opened, Declined, Held, Message, Closed, Ignored, Refused}
 use Rattle.channel.specs.Stages.{took}
-use Rattle.channel.specs.Channel.{Act, BadCreate, Create, Bring, Closing, LocalClose, View, Shut, Open, Room, NoRoom, Spare, Did, opening, landed, act}
+use Rattle.channel.specs.Channel.{Act, BadCreate, Create, Bring, Closing, LocalClose, View, Shut, Open, Room, NoRoom, Spare, Did, opening, answerTo, landed, act}
 use Rattle.table.specs.Table.{freePlace, recordAt, withRecord}
 use Rattle.table.proofs.Records.{free-at}
 use Rattle.store.specs.Parts.{part}
@@ -151,7 +151,7 @@ up w (Ignored n) = []
 up w (Refused why concern) = []
 
 landed-up : (n : ℕ) (r : Record) (part bytes : List ℕ) (t : Took) (st : State) → handedUp st (landed n r part bytes t .answer) ≡ up (view n st) (landed n r part bytes t .answer)
-unfolding landed handedUp
+unfolding landed answerTo handedUp
 landed-up n r part bytes (Bars why) st = refl
 landed-up n r part bytes (Spoils why) st = refl
 landed-up n r part bytes (Holds wanted at held) st = refl

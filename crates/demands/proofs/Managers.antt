@@ -21,7 +21,7 @@ use Rattle.channel.specs.declared.Took.the-variants.{Bars, Spoils, Holds, Finis
 use Rattle.channel.specs.declared.Concern.the-variants.{NoChannel, Channel}
 use Rattle.channel.specs.declared.Answer.the-variants.{Message, Closed, Refused}
 use Rattle.channel.specs.Stages.{added, begun, took}
-use Rattle.channel.specs.Channel.{Act, BadCreate, Create, Bring, Closing, LocalClose, View, Shut, Open, Room, Did, did, opening, landed, act}
+use Rattle.channel.specs.Channel.{Act, BadCreate, Create, Bring, Closing, LocalClose, View, Shut, Open, Room, Did, did, opening, answerTo, landed, act}
 use Rattle.table.specs.Sound.{goodStage}
 use Rattle.table.proofs.Soundness.{joining-bounds}
 use Rattle.client.specs.State.{State, view}
@@ -68,19 +68,19 @@ module _ (n : ℕ) (r : Record) (part : List ℕ) (whole : length part ≡ PART)
   Lands why d b = Speaks d (says (answered n why b) []) b
 
   spoils-says : (block : List ℕ) (why : Refusal) → Lands why (landed n r part block (Spoils why)) Nothing
-  unfolding landed answered once
+  unfolding landed answerTo answered once
   spoils-says block why = record { answers = refl; replies = refl; hands = refl }
 
   bars-says : (block : List ℕ) (why : Refusal) → Lands why (landed n r part block (Bars why)) Nothing
-  unfolding landed answered once
+  unfolding landed answerTo answered once
   bars-says block why = record { answers = refl; replies = refl; hands = refl }
 
   finishes-says : (block got : List ℕ) (why : Refusal) (held wanted : ℕ) → wanted ≡ length got → Lands why (landed n r part block (Finishes held wanted)) (Whole got)
-  unfolding landed answered once firstOf
+  unfolding landed answerTo answered once firstOf
   finishes-says block got why held wanted e = record { answers = ap (Message n) e; replies = refl; hands = refl }
 
   holds-says : (block : List ℕ) (why : Refusal) (wanted at held : ℕ) → Lands why (landed n r part block (Holds wanted at held)) (StillToCome (wanted - held))
-  unfolding landed answered once
+  unfolding landed answerTo answered once
   holds-says block why wanted at held = record { answers = refl; replies = refl; hands = refl }
 
   add-says : (wanted held : ℕ) (block : List ℕ) → held ≤ PART → Lands PastLength (landed n r part block (added wanted held (length block))) (gathered wanted (take held part ++ block) .brings)

@@ -13,7 +13,7 @@ use Rattle.channel.specs.declared.Decline.the-variants.{Unlisted, Full}
 use Rattle.channel.specs.declared.Answer.{Answer}
 use Rattle.channel.specs.declared.Answer.the-variants.{Ready, Opened, Declined, Held, Message, Closed, Ignored, Refused}
 use Rattle.channel.specs.Stages.{took}
-use Rattle.channel.specs.Channel.{Act, BadCreate, Create, Bring, Closing, LocalClose, View, Shut, Open, Did, opening, landed, act}
+use Rattle.channel.specs.Channel.{Act, BadCreate, Create, Bring, Closing, LocalClose, View, Shut, Open, Did, opening, answerTo, landed, act}
 use Rattle.client.specs.State.{State, view}
 use Rattle.client.specs.Events.{Of}
 use Rattle.client.specs.Client.{stepped}
@@ -53,7 +53,7 @@ isFull (Ignored n) = false
 isFull (Refused why concern) = false
 
 landed-full : (n : ℕ) (r : Record) (part bytes : List ℕ) (t : Took) → isFull (landed n r part bytes t .answer) ≡ false
-unfolding landed
+unfolding landed answerTo
 landed-full n r part bytes (Bars why) = refl
 landed-full n r part bytes (Spoils why) = refl
 landed-full n r part bytes (Holds wanted at held) = refl

@@ -19,7 +19,7 @@ use Rattle.channel.specs.declared.Offer.the-variants.{First, More}
 use Rattle.channel.specs.declared.Answer.{Answer}
 use Rattle.channel.specs.declared.Answer.the-variants.{Ready, Opened, Declined, Held, Message, Closed, Ignored, Refused}
 use Rattle.channel.specs.Stages.{added, begun, took}
-use Rattle.channel.specs.Channel.{Act, Create, Bring, Closing, openedRecord, restaged, opening, landed, act}
+use Rattle.channel.specs.Channel.{Act, Create, Bring, Closing, openedRecord, restaged, opening, stageAfter, partAfter, answerTo, landed, act}
 use Rattle.table.specs.Table.{emptyTable, holds, isFree, numberPlace, freePlace, recordAt, withRecord}
 use Rattle.client.specs.State.{State, viewAt, view, roomAt, roomIn, wrote, save}
 use Rattle.client.specs.Events.{Event, Of, createAct, eventOf, eventFor, actFor, carriedBy}
@@ -103,7 +103,7 @@ roomy-map st [] f = tt
 roomy-map st (c ∷ xs) f = (f .0, roomy-map (stepped st (readCall c) .state) xs (f .1))
 
 happened-roomy : (version : ℕ) → Never (λ (t : State) (e : Event). stepped t e .state) eventMeetsFull (paperBegin version) happened
-unfolding happened paperBegin readied stepped acted finished save wrote view viewAt roomIn roomAt numberPlace freePlace recordAt withRecord emptyTable holds isFree place act landed restaged took begun added opening openedRecord eventMeetsFull asksRoom fullTable PARTS MESSAGE-MAX
+unfolding happened paperBegin readied stepped acted finished save wrote view viewAt roomIn roomAt numberPlace freePlace recordAt withRecord emptyTable holds isFree place act landed stageAfter partAfter answerTo restaged took begun added opening openedRecord eventMeetsFull asksRoom fullTable PARTS MESSAGE-MAX
 happened-roomy version = (refl, (refl, (refl, (refl, (refl, (refl, (refl, (refl, (refl, (refl, tt))))))))))
 
 run-roomy : (version : ℕ) → Roomy version run

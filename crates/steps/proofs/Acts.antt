@@ -19,7 +19,7 @@ use Rattle.channel.specs.declared.Offer.the-variants.{First, More}
 use Rattle.channel.specs.declared.Took.{Took}
 use Rattle.channel.specs.declared.Took.the-variants.{Bars, Spoils, Holds, Finishes}
 use Rattle.channel.specs.Stages.{added, begun, took}
-use Rattle.channel.specs.Channel.{Act, BadCreate, Create, Bring, Closing, LocalClose, View, Shut, Open, Room, NoRoom, Spare, classAt, openedRecord, restaged, opening, landed, act}
+use Rattle.channel.specs.Channel.{Act, BadCreate, Create, Bring, Closing, LocalClose, View, Shut, Open, Room, NoRoom, Spare, classAt, openedRecord, restaged, opening, stageAfter, partAfter, landed, act}
 use Rattle.table.specs.Table.{holds, recordAt, numberPlace}
 use Rattle.table.specs.Sound.{goodStage}
 use Rattle.table.proofs.Twice.{holds-own}
@@ -86,7 +86,7 @@ opening-fits level n pri NoRoom h = tt
 opening-fits level n pri (Spare p) h = (holds-own n (openedRecord level n pri) refl refl, (refl, record { class = class-fine level pri h; stage = refl }))
 
 landed-fits : (n : ℕ) (room : Room) (r : Record) (b bytes : List ℕ) → holds n r ≡ true → Fine r → (t : Took) → GoodTook t → Fits n room (Open r b) (landed n r b bytes t .view)
-unfolding landed goodStage
+unfolding landed stageAfter partAfter restaged goodStage
 landed-fits n room r b bytes h f (Bars why) g = (h, (refl, f))
 landed-fits n room r b bytes h f (Spoils why) g = (sym (other-stage n r Spoiled) ∙ h, (refl, restaged-fine r Spoiled f refl))
 landed-fits n room r b bytes h f (Holds wanted at held) g = (sym (other-stage n r (Joining wanted held)) ∙ h, (length-laid b at bytes, restaged-fine r (Joining wanted held) f (joining-good wanted held (g .0) (g .1))))

@@ -38,7 +38,7 @@ use Rattle.client.specs.Client.{Stepped, refused, finished, readied, stepped, b
 use Rattle.client.proofs.Calls.{Proper, proper, refuses, passes}
 use Rattle.client.proofs.Steps.{own-part, save-own, too-early, in-time, too-late, made-ready}
 use Rattle.steps.proofs.Frame.{Steady, opened}
-use Rattle.channel.specs.Channel.{Act, BadCreate, Create, Bring, Closing, LocalClose, View, Shut, Open, Room, NoRoom, Spare, restaged, opening, landed, act}
+use Rattle.channel.specs.Channel.{Act, BadCreate, Create, Bring, Closing, LocalClose, View, Shut, Open, Room, NoRoom, Spare, restaged, opening, stageAfter, partAfter, answerTo, landed, act}
 
 -- "three listed refusals mark the one channel concerned as spoiled"
 abbrev pub Spoiling : Refusal → Type 0
@@ -87,7 +87,7 @@ pub record Quiet (v w : View) (reply : List ℕ) (why : Refusal) : Type 0 where
   pub leaves : Leaves v w why
 
 landed-quiet : (n : ℕ) (r : Record) (part bytes : List ℕ) (t : Took) → SpoilsRight t → (why : Refusal) (concern : Concern) → landed n r part bytes t .answer ≡ Refused why concern → Quiet (Open r part) (landed n r part bytes t .view) (landed n r part bytes t .reply) why
-unfolding landed
+unfolding landed stageAfter partAfter answerTo restaged
 landed-quiet n r part bytes (Bars x) s why concern e = let q : x ≡ why = cc in record { silent = refl; leaves = rw (← q) (kept s) }
 landed-quiet n r part bytes (Spoils x) s why concern e = let q : x ≡ why = cc in record { silent = refl; leaves = rw (← q) (spoilt s) }
 landed-quiet n r part bytes (Holds wanted at held) s why concern e = let z : _≡_ {A = ℕ} 0 1 = cc in absurd (omega arith)

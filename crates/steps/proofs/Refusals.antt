@@ -33,7 +33,7 @@ use Rattle.paper.specs.Refusals.{refusalNumber}
 use Rattle.channel.specs.declared.Took.{Took}
 use Rattle.channel.specs.declared.Took.the-variants.{Bars, Spoils, Holds, Finishes}
 use Rattle.channel.specs.Stages.{added, begun, took}
-use Rattle.channel.specs.Channel.{Act, BadCreate, Create, Bring, Closing, LocalClose, View, Shut, Open, Room, NoRoom, Spare, opening, landed, act}
+use Rattle.channel.specs.Channel.{Act, BadCreate, Create, Bring, Closing, LocalClose, View, Shut, Open, Room, NoRoom, Spare, opening, answerTo, landed, act}
 use Rattle.table.specs.declared.Table.{Table}
 use Rattle.table.specs.Table.{numberPlace, recordAt}
 use Rattle.table.specs.Sound.{goodStage, soundTable}
@@ -59,7 +59,7 @@ tookVerdict (Holds wanted at held) = fine
 tookVerdict (Finishes at len) = fine
 
 landed-verdict : (n : ℕ) (r : Record) (part bytes : List ℕ) (t : Took) → verdictOf (landed n r part bytes t .answer) ≡ tookVerdict t
-unfolding landed verdictOf
+unfolding landed answerTo verdictOf
 landed-verdict n r part bytes (Bars why) = refl
 landed-verdict n r part bytes (Spoils why) = refl
 landed-verdict n r part bytes (Holds wanted at held) = refl

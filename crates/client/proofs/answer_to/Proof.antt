@@ -1,6 +1,6 @@
 -- `client::answer_to` meets its contract: case by case, as the definition.
 use mathlib.Core.Path.{refl}
-use Rattle.client.specs.Landing.{answerTo}
+use Rattle.channel.specs.Channel.{answerTo}
 use borrow.Author.Needs.{needs}
 use Rattle.client.proofs.answer_to.Statement.{statement}
 use Rattle.client.proofs.answer_to.Tie as tie

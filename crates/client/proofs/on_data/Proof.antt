@@ -1,5 +1,5 @@
 -- `client::on_data` meets its contract: what `take` says of the stage that was found lands at its place.
-use mathlib.Core.Path.{_≡_, ap}
+use mathlib.Core.Path.{_≡_, sym, ap, subst}
 use denote.Ref.{now}
 use lib.ListN.{length}
 use Rattle.lists.proofs.Arrays.{length-mapped}
@@ -7,7 +7,9 @@ use Rattle.paper.specs.Sizes.{PARTS}
 use Rattle.table.specs.declared.Found.{Found}
 use Rattle.table.specs.Table.{foundIn}
 use Rattle.table.proofs.Records.{found-taken}
+use Rattle.channel.specs.Stages.{Barred}
 use Rattle.channel.specs.Channel.{act, Bring, Shut}
+use Rattle.channel.proofs.Bars.{barred}
 use Rattle.client.specs.State.{stateOf, save}
 use Rattle.client.specs.Client.{finished}
 use Rattle.client.proofs.Steps.{in-time, view-shut, gives-answer}
@@ -32,7 +34,8 @@ take-requires : tie.Need-take-requires
 take-requires c κs = search needs
 
 put-requires : tie.Need-put-requires
-put-requires c κs = search needs
+unfolding PARTS
+put-requires c κs = (c .before .before .before .before .before .before .pre .0, c .before .before .before .if1 .left)
 
 stage-after-requires : tie.Need-stage-after-requires
 stage-after-requires c κs = search needs
@@ -60,7 +63,8 @@ returns-2 c =
     let pre = c .before .before .before .before .before .before .before .before .before .before .before .before .before .pre in
     let place = ap (λ (f : Found). f .place) (pre .2) in
     let row = ap (λ (f : Found). f .row) (pre .2) in
-    λ reply. gives-landed (a .number) (stateOf (a .table) (now (a .store))) (a .found .place) (a .found .row) (a .offer) (now (a .block)) _ reply _ _ (pre .0) (pre .1) (c .before .before .before .before .before .before .before .before .before .before .if1 .left) place (rw place row) (c .before .before .before .before .before .before .before .before .take .ensures) (simp (c .before .replace .ensures, c .before .before .restaged .ensures, c .before .before .before .stage-after .ensures, c .answer-to .ensures)) (c .before .before .before .before .before .before .put .ensures)
+    let staged = c .before .before .before .stage-after .ensures (a .found .row .stage) (subst (Barred (a .found .row .stage)) (sym (c .before .before .before .before .before .before .before .before .take .ensures)) (barred (a .found .row .stage) (a .offer) _)) in
+    λ reply. gives-landed (a .number) (stateOf (a .table) (now (a .store))) (a .found .place) (a .found .row) (a .offer) (now (a .block)) _ (pre .1) (c .before .before .before .before .before .before .before .before .before .before .if1 .left) place (rw place row) (c .before .before .before .before .before .before .before .before .take .ensures) reply _ _ (simp (c .before .replace .ensures, c .before .before .restaged .ensures, staged, c .answer-to .ensures)) (c .before .before .before .before .before .before .put .ensures)
 
 pub on-data-spec : {M : Type 1} → statement M
 on-data-spec =

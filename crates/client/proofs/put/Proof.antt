@@ -1,6 +1,9 @@
 -- `client::put` meets its contract: a block that is taken goes into its part, and another nowhere.
-use mathlib.Core.Path.{refl}
-use Rattle.client.specs.Landing.{storeAfter}
+use mathlib.Core.Path.{sym, _∙_}
+use denote.Ref.{now}
+use Rattle.channel.specs.Channel.{partAfter}
+use Rattle.store.proofs.Parts.{there, put-there}
+use Rattle.client.proofs.Steps.{own-part}
 use borrow.Author.Needs.{needs}
 use Rattle.client.proofs.put.Statement.{statement}
 use Rattle.client.proofs.put.Tie as tie
@@ -30,26 +33,34 @@ put-block-requires-2 : tie.Need-put-block-requires-2
 put-block-requires-2 c κs = search needs
 
 returns : tie.Need-returns
-unfolding storeAfter
-returns c = rw (c .enum-told .given .1) refl
+unfolding partAfter
+returns c =
+    let a = c .before .before .before .before .args in
+    rw (c .enum-told .given .1) (sym (own-part (now (a .store)) (a .k) (c .before .before .before .before .pre .0) (c .before .before .before .before .pre .1)))
 
 returns-2 : tie.Need-returns-2
-unfolding storeAfter
-returns-2 c = rw (c .enum-told2 .given .1) refl
+unfolding partAfter
+returns-2 c =
+    let a = c .before .before .before .before .args in
+    rw (c .enum-told2 .given .1) (sym (own-part (now (a .store)) (a .k) (c .before .before .before .before .pre .0) (c .before .before .before .before .pre .1)))
 
 same-length : tie.Need-same-length
 same-length c = search needs
 
 returns-3 : tie.Need-returns-3
-unfolding storeAfter
-returns-3 c = rw (c .before .before .before .before .before .took .given .1) (c .before .before .put-block .ensures)
+unfolding partAfter
+returns-3 c =
+    let a = c .before .before .before .before .before .before .before .before .before .args in
+    rw (c .before .before .before .before .before .took .given .1) (c .before .before .put-block .ensures ∙ put-there (now (a .store)) (a .k) _ (now (a .block)) (there (now (a .store)) (a .k) (c .before .before .before .before .before .before .before .before .before .pre .0) (c .before .before .before .before .before .before .before .before .before .pre .1)))
 
 same-length-2 : tie.Need-same-length-2
 same-length-2 c = search needs
 
 returns-4 : tie.Need-returns-4
-unfolding storeAfter
-returns-4 c = rw (c .before .before .before .before .before .took2 .given .1) (c .before .before .put-block2 .ensures)
+unfolding partAfter
+returns-4 c =
+    let a = c .before .before .before .before .before .before .before .before .before .args in
+    rw (c .before .before .before .before .before .took2 .given .1) (c .before .before .put-block2 .ensures ∙ put-there (now (a .store)) (a .k) _ (now (a .block)) (there (now (a .store)) (a .k) (c .before .before .before .before .before .before .before .before .before .pre .0) (c .before .before .before .before .before .before .before .before .before .pre .1)))
 
 pub put-spec : {M : Type 1} → statement M
 put-spec =
