@@ -3,15 +3,17 @@
 -- Assumes nothing.
 use mathlib.Core.Path.{_≡_, refl, sym, ap, _∙_}
 use mathlib.Core.Bool.{Bool, true, false}
+use mathlib.Core.Logic.{_≢_}
 use mathlib.Core.List.{List, []}
 use Prim.Native.Nat.{ℕ, _+_, _<_}
 use native.Mathlib.Omega.{arith}
+use borrow.Author.Tests.{eq-eqb, ne-eqb}
 use lib.Dec.{eqb, ltb}
 use lib.ListN.{length}
 use Rattle.paper.specs.Sizes.{PARTS, STORE, MESSAGE-MAX}
 use Rattle.paper.specs.declared.Refusal.{Refusal}
 use Rattle.paper.specs.declared.Refusal.the-variants.{WrongSize, CutShort, TooLong, NoCommand, BadField, BadList, WrongTime, NotOpen, AlreadyOpen, StillJoining, OverLimit, PastLength, IsSpoiled, NoStart}
-use Rattle.lists.specs.Bytes.{laid}
+use Rattle.lists.specs.Bytes.{laid, zeros}
 use Rattle.lists.proofs.Cases.{choice}
 use Rattle.channel.specs.declared.Stage.{Stage}
 use Rattle.channel.specs.declared.Stage.the-variants.{Idle, Joining, Spoiled}
@@ -24,7 +26,7 @@ use Rattle.channel.specs.declared.Answer.the-variants.{Refused}
 use Rattle.channel.specs.declared.Took.{Took}
 use Rattle.channel.specs.declared.Took.the-variants.{Bars, Spoils, Holds, Finishes}
 use Rattle.channel.specs.Stages.{added, begun, took}
-use Rattle.table.specs.Table.{numberPlace, recordAt, withRecord}
+use Rattle.table.specs.Table.{emptyTable, numberPlace, recordAt, withRecord}
 use Rattle.table.specs.Sound.{soundTable}
 use Rattle.table.specs.declared.Table.{Table}
 use Rattle.reading.specs.Reading.{readPdu}
@@ -32,9 +34,10 @@ use Rattle.reading.specs.declared.Pdu.{Pdu}
 use Rattle.reading.specs.declared.Pdu.the-variants.{CreateRequest, CreateResponse, DataFirst, Data, Close, CapsRequest, CapsResponse, Refused as NotRead}
 use Rattle.reading.proofs.Placed.{ReadingRefusal, Placed, placed}
 use Rattle.store.specs.Parts.{part}
+use Rattle.client.specs.declared.Begun.the-variants.{Done, Refused as NotBegun}
 use Rattle.client.specs.State.{State, stateOf, view, roomIn, wrote, save}
 use Rattle.client.specs.Events.{Event, Unreadable, Capabilities, Of, eventOf, eventFor, actFor, carriedBy}
-use Rattle.client.specs.Client.{Stepped, refused, finished, readied, stepped, badCall, Whole, wholeOf, guarded, received, locallyClosed}
+use Rattle.client.specs.Client.{Stepped, refused, finished, readied, stepped, badCall, Whole, wholeOf, guarded, received, locallyClosed, started, storeStarted}
 use Rattle.client.proofs.Calls.{Proper, proper, refuses, passes}
 use Rattle.client.proofs.Steps.{own-part, save-own, too-early, in-time, too-late, made-ready}
 use Rattle.steps.proofs.Frame.{Steady, opened}
@@ -243,3 +246,13 @@ unfolding locallyClosed
 local-close-refused t store n reply why concern rows e =
     guarded-refusing t store reply _ why concern
     (λ p. step-refusing (stateOf t store) rows (p .store-size) (p .sound) why concern (Of n LocalClose) tt) e
+
+-- ---- Start
+
+pub start-done : (store : List ℕ) → length store ≡ STORE → (started store ≡ record { table = emptyTable; begun = Done }) × (storeStarted store ≡ zeros STORE)
+unfolding started storeStarted
+start-done store e = let t = eq-eqb (length store) STORE e in (rw t, rw t)
+
+pub start-refused : (store : List ℕ) → length store ≢ STORE → (started store ≡ record { table = emptyTable; begun = NotBegun WrongSize }) × (storeStarted store ≡ store)
+unfolding started storeStarted
+start-refused store d = let t = ne-eqb (length store) STORE d in (rw t, rw t)
