@@ -29,7 +29,7 @@ ghost use Rattle.laying.specs.Laying.{createResponseBytes};
 ghost use Rattle.channel.specs.declared.Stage.{Stage};
 ghost use Rattle.channel.specs.Stages.{Barred};
 ghost use Rattle.channel.specs.Channel.{restaged, classAt, openedRecord, Bring, stageAfter, partAfter, answerTo};
-ghost use Rattle.table.specs.Table.{numberPlace, freePlace, withRecord, foundIn};
+ghost use Rattle.table.specs.Table.{numberPlace, withRecord, foundIn};
 ghost use Rattle.store.specs.Parts.{part, withPart};
 ghost use Rattle.client.specs.State.{stateOf};
 ghost use Rattle.client.specs.Events.{Capabilities, Of, createAct, closeAct, Within, carriedBy, actFor, eventOf};
@@ -120,9 +120,9 @@ fn class_at(level: u8, pri: u8) -> u8
     0
 }
 
-// A channel is opened in the lowest-numbered free record.
-fn opened(table: Table, number: u32, pri: u8, reply: &mut [u8]) -> Received
-    ensures { λ r. ⌜ r ≡ record { table = withRecord table (freePlace table) (openedRecord (table .level) number pri); answer = Answer.Opened number; sent = length (createResponseBytes number OPENED) } ⌝ }
+// A channel is opened in the record at place k.
+fn opened(table: Table, k: usize, number: u32, pri: u8, reply: &mut [u8]) -> Received
+    ensures { λ r. ⌜ r ≡ record { table = withRecord table k (openedRecord (table .level) number pri); answer = Answer.Opened number; sent = length (createResponseBytes number OPENED) } ⌝ }
     ensures { λ _. ⌜ now (reply .exit) ≡ laid (now (reply .entry)) 0 (createResponseBytes number OPENED) ⌝ }
 {
     let class = class_at(table.level, pri);
@@ -134,7 +134,7 @@ fn opened(table: Table, number: u32, pri: u8, reply: &mut [u8]) -> Received
     };
     let sent = laying::create_response(reply, number, paper::OPENED);
     Received {
-        table: table::fill(table, record),
+        table: table::with_record(table, k, record),
         answer: Answer::Opened { number },
         sent,
     }
@@ -162,10 +162,11 @@ fn on_create(
     if !listeners::listed(list, name) {
         return declined(table, number, Decline::Unlisted, paper::UNLISTED, reply);
     }
-    if PARTS <= table::find_free(table) {
+    let free = table::find_free(table);
+    if PARTS <= free {
         return declined(table, number, Decline::Full, paper::FULL, reply);
     }
-    opened(table, number, pri, reply)
+    opened(table, free, number, pri, reply)
 }
 
 // How many bytes of a message are still to come.

@@ -50,6 +50,18 @@ pub fn empty() -> Table
     }
 }
 
+// The table with the record at a place. A place that it doesn't have leaves it as it is.
+pub fn with_record(table: Table, k: usize, record: Record) -> Table
+    ensures { λ r. ⌜ r ≡ withRecord table k «record» ⌝ }
+{
+    if PARTS <= k {
+        return table;
+    }
+    let mut next = table;
+    next.records[k] = record;
+    next
+}
+
 // Whether the record is open with the number.
 fn holds(record: Record, number: u32) -> bool
     ensures { λ r. ⌜ r ≡ holds number «record» ⌝ }
@@ -107,9 +119,9 @@ fn either(a: bool, b: bool) -> bool
     a || b
 }
 
-// The three updates below search again in place of taking an index, and go on after the record that they set: compiled,
-// each record is then compared and set where it stands. An index that isn't a constant makes the compiler write the whole
-// table out and read it back. Each has one caller, so that it is compiled into it.
+// The two updates below search again in place of taking an index, and go on after the record that they set: compiled, each
+// record is then compared and set where it stands. An index that isn't a constant makes the compiler write the whole table
+// out and read it back. Each has one caller, so that it is compiled into it.
 
 // The table with another record in the place of the one that holds the number. Where none holds it, the table stays.
 pub fn replace(table: Table, number: u32, record: Record) -> Table
@@ -143,25 +155,6 @@ pub fn free(table: Table, number: u32) -> Table
         let hit = first(holds(old, number), done);
         if hit {
             next.records[i] = spare;
-        }
-        done = either(done, hit);
-        i += 1;
-    }
-    next
-}
-
-// The table with a new record in its lowest-numbered free place. A full table stays.
-pub fn fill(table: Table, fresh: Record) -> Table
-    ensures { λ r. ⌜ r ≡ withRecord table (freePlace table) fresh ⌝ }
-{
-    let mut next = table;
-    let mut done = false;
-    let mut i = 0;
-    while i < PARTS {
-        let old = table.records[i];
-        let hit = first(!old.taken, done);
-        if hit {
-            next.records[i] = fresh;
         }
         done = either(done, hit);
         i += 1;

@@ -95,8 +95,7 @@ returns-5 c =
     let name = now (a .name) in
     λ store h.
     let st = stateOf (a .table) store in
-    let free = c .before .before .before .before .before .find-free .ensures in
-    gives-wrote _ st _ _ _ _ _ _ _ _ _ (opens st (a .number) (a .pri) list name (pre .0) (a .k) _ (sym (c .before .before .before .before .before .before .before .before .before .before .good2 .ensures) ∙ not-false _ (c .before .before .before .before .before .before .before .before .before .if1 .left)) (sym (c .before .before .before .before .before .before .before .listed .ensures) ∙ not-false _ (c .before .before .before .before .before .before .if3 .left)) (pre .1) (c .before .before .before .before .before .before .before .before .if2 .left) free (c .before .before .before .before .if4 .left)) (rw free (c .before .before .opened .ensures .0)) (sym (own-part store _ h (c .before .before .before .before .if4 .left))) (c .before .before .opened .ensures .1)
+    gives-wrote _ st _ _ _ _ _ _ _ _ _ (opens st (a .number) (a .pri) list name (pre .0) (a .k) _ (sym (c .before .before .before .before .before .before .before .before .before .before .good2 .ensures) ∙ not-false _ (c .before .before .before .before .before .before .before .before .before .if1 .left)) (sym (c .before .before .before .before .before .before .before .listed .ensures) ∙ not-false _ (c .before .before .before .before .before .before .if3 .left)) (pre .1) (c .before .before .before .before .before .before .before .before .if2 .left) (c .before .before .before .before .before .find-free .ensures) (c .before .before .before .before .if4 .left)) ((c .before .before .opened .ensures .0)) (sym (own-part store _ h (c .before .before .before .before .if4 .left))) (c .before .before .opened .ensures .1)
 
 pub on-create-spec : {M : Type 1} → statement M
 on-create-spec =
