@@ -2,3 +2,4 @@ pub mod Blocks
 pub mod Starts
 pub mod Answers
 pub mod One
+pub mod Refusals

@@ -1,11 +1,12 @@
 -- Cutting: the paper's section "Cutting", sentence by sentence. `total` is the message's length, `at` an offset.
 use Prim.Native.Nat.{ℕ, zero, suc, _+_, _-_, _*_, _/_, _%_, min}
 use mathlib.Core.Bool.{Bool, false, cond, not, _&&_, _||_}
-use mathlib.Core.List.{List}
+use mathlib.Core.List.{List, [], _∷_}
 use lib.Dec.{ltb, eqb}
 use lib.ListN.{length, take, drop}
 use Rattle.paper.specs.Sizes.{PDU-MAX, MESSAGE-MAX, WHOLE-MAX}
 use Rattle.paper.specs.Refusals.{refusalNumber}
+use Rattle.paper.specs.Rows.{Row, row, Outcome, done, refusal}
 use Rattle.paper.specs.declared.Refusal.{Refusal}
 use Rattle.paper.specs.declared.Refusal.the-variants.{WrongSize, OverLimit, NoStart}
 use Rattle.lists.specs.Bytes.{laid}
@@ -14,7 +15,8 @@ use Rattle.laying.specs.Laying.{dataBytes, dataFirstBytes}
 use Rattle.cutting.specs.declared.Piece.{Piece}
 use Rattle.cutting.specs.declared.Piece.the-variants.{Pdu, Refused}
 
--- "a message of at most 1,590 bytes is one Data PDU, at offset 0 only. A longer one has at offset 0 a Data First [..]; then [..] a Data"
+-- "a message of at most 1,590 bytes is one Data PDU, at offset 0 only. A longer one has at offset 0 a Data First
+-- [..]; then [..] a Data"
 unfoldable pub isFirst : ℕ → ℕ → Bool
 isFirst total at = ltb WHOLE-MAX total && eqb at 0
 
@@ -30,15 +32,15 @@ blockLen number total at = min (total - at) (PDU-MAX - headerLen number total at
 unfoldable pub blockEnd : ℕ → ℕ → ℕ → ℕ
 blockEnd number total at = at + blockLen number total at
 
--- "then, starting just where the block before ended, [..] until the length is reached": whether the offset is among so many starts,
--- of which `at` is the first
+-- "then, starting just where the block before ended, [..] until the length is reached": whether the offset is among
+-- so many starts, of which `at` is the first
 unfoldable pub meets : ℕ → ℕ → ℕ → ℕ → ℕ → Bool
 meets zero number total offset at = false
 meets (suc more) number total offset at =
     eqb at offset || (ltb (blockEnd number total at) total && meets more number total offset (blockEnd number total at))
 
--- the offset is a start of a block: it is met from 0 on, the start of an empty message too. Every block but the last has a byte, so
--- that no message has more starts than this
+-- the offset is a start of a block: it is met from 0 on, the start of an empty message too. Every block but the
+-- last has a byte, so that no message has more starts than this
 unfoldable pub isStart : ℕ → ℕ → ℕ → Bool
 isStart number total offset = meets (suc total) number total offset 0
 
@@ -66,7 +68,8 @@ cutAt number message offset out =
     (refuse NoStart (not (isStart number (length message) offset))
     (Pdu (length (cutPdu number message offset)) (blockEnd number (length message) offset))))
 
--- "Bytes of a reply or PDU buffer behind the written ones stay." "Store, reply and PDU buffer are unchanged by every refusal."
+-- "Bytes of a reply or PDU buffer behind the written ones stay." "Store, reply and PDU buffer are unchanged by every
+-- refusal."
 unfoldable pub bufferAfter : Piece → List ℕ → List ℕ → List ℕ
 bufferAfter (Pdu len next) pdu out = laid out 0 pdu
 bufferAfter (Refused why) pdu out = out
@@ -74,18 +77,32 @@ bufferAfter (Refused why) pdu out = out
 unfoldable pub cutBuffer : ℕ → List ℕ → ℕ → List ℕ → List ℕ
 cutBuffer number message offset out = bufferAfter (cutAt number message offset out) (cutPdu number message offset) out
 
--- ---- the answer in the paper's terms
+-- ---- the answer in the paper's terms, and the refusals as rows
 
--- the PDU's length and the next offset, or a refusal
-pub data Outcome : Type 0 where
-  pdu : ℕ → ℕ → Outcome
-  refusal : ℕ → Outcome
+-- "the PDU's length and the next offset"
+pub record Lengths : Type 0 where
+  pub pdu : ℕ
+  pub next : ℕ
 
-unfoldable pub outcome : Piece → Outcome
-outcome (Pdu len next) = pdu len next
+-- at a start
+abbrev pub lengthsAt : ℕ → List ℕ → ℕ → Lengths
+lengthsAt number message offset =
+    record { pdu = length (cutPdu number message offset); next = blockEnd number (length message) offset }
+
+unfoldable pub outcome : Piece → Outcome Lengths
+outcome (Pdu len next) = done (record { pdu = len; next = next })
 outcome (Refused why) = refusal (refusalNumber why)
 
--- ---- the answer as one number: "The panel's host program is in C and calls the cutter with numbers and byte slices."
+-- "Cutting: 1, 11, 14."
+unfoldable pub cuttingRows : ℕ → List ℕ → ℕ → List ℕ → List Row
+cuttingRows number message offset out =
+    row WrongSize (ltb (length out) PDU-MAX)
+    ∷ row OverLimit (ltb MESSAGE-MAX (length message))
+    ∷ row NoStart (not (isStart number (length message) offset))
+    ∷ []
+
+-- ---- the answer as one number: "The panel's host program is in C and calls the cutter with numbers and byte
+-- slices."
 
 -- what one byte of a PDU's length counts in it: more than any next offset
 unfoldable pub LENGTH-UNIT : ℕ
@@ -97,7 +114,8 @@ packed (Refused why) = refusalNumber why
 
 -- cutting's three refusals by their numbers
 unfoldable pub refusalOf : ℕ → Refusal
-refusalOf n = cond (eqb n (refusalNumber WrongSize)) WrongSize (cond (eqb n (refusalNumber OverLimit)) OverLimit NoStart)
+refusalOf n =
+    cond (eqb n (refusalNumber WrongSize)) WrongSize (cond (eqb n (refusalNumber OverLimit)) OverLimit NoStart)
 
 -- how the host reads it
 unfoldable pub unpacked : ℕ → Piece

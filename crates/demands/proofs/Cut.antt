@@ -1,5 +1,6 @@
 -- "A message of up to 4,096 bytes, cut by us and received on an open, idle channel, is handed up once, with the same bytes."
--- The run may hold any events of other channels; it starts in any sound, ready state.
+-- By induction on the calls of `cut`: before each the channel holds what the calls before it cut. The run may hold any events of other
+-- channels; it starts in any sound, ready state.
 -- Assumes nothing.
 use mathlib.Core.Path.{_≡_, refl, sym, ap, _∙_, subst}
 use mathlib.Core.Logic.{⊎-elim}
@@ -7,7 +8,7 @@ use mathlib.Core.Bool.{Bool, true, false, cond}
 use mathlib.Core.List.{List, [], _∷_, _++_, map, append-assoc}
 use Prim.Native.Nat.{ℕ, zero, suc, _+_, _-_, _≤_, _<_}
 use native.Mathlib.Omega.{arith}
-use borrow.Author.Tests.{le-ltb, eq-eqb, ne-eqb, ltb-true, ltb-false, eqb-true}
+use borrow.Author.Tests.{lt-ltb, le-ltb, eq-eqb, ne-eqb, ltb-true, ltb-false, eqb-true}
 use lib.Dec.{ltb, eqb, lit<, lit≤}
 use lib.ListN.{length, take, length-append}
 use lib.Seq.{take-add, take-at, take-length, length-take-le}
@@ -15,8 +16,9 @@ use Rattle.paper.specs.Sizes.{PART, MESSAGE-MAX, PDU-MAX, WHOLE-MAX}
 use Rattle.lists.specs.Bytes.{laid}
 use Rattle.lists.proofs.Cases.{lt-or-le, true-not-false}
 use Rattle.lists.proofs.Laid.{laid-eq, length-laid}
-use Rattle.writing.proofs.ReadBack.{read-data, read-data-first}
-use Rattle.writing.proofs.SameValues.{block-back, first-back}
+use Rattle.numbers.specs.Numbers.{NUMBERS}
+use Rattle.reading.specs.Grammar.{data-first, data-block, values}
+use Rattle.laying.proofs.Encoded.{data-encoded, data-first-encoded}
 use Rattle.channel.specs.declared.Record.{Record}
 use Rattle.channel.specs.declared.Stage.{Stage}
 use Rattle.channel.specs.declared.Stage.the-variants.{Idle, Joining, Spoiled}
@@ -29,17 +31,25 @@ use Rattle.channel.specs.declared.Took.the-variants.{Holds, Finishes}
 use Rattle.channel.specs.Stages.{added, begun, took}
 use Rattle.channel.specs.Channel.{Bring, View, Open, Room, restaged, stageAfter, partAfter, answerTo, landed, act}
 use Rattle.client.specs.State.{State, view, roomIn}
-use Rattle.client.specs.Events.{Event, Unreadable, Capabilities, Of, eventOf, eventFor, actFor, carriedBy}
+use Rattle.client.specs.Events.{Event, Unreadable, Capabilities, Of}
 use Rattle.client.specs.Client.{stepped}
-use Rattle.cutting.specs.Cutting.{isFirst, blockLen, blockEnd, block, cutPdu}
-use Rattle.cutting.proofs.Blocks.{end-is, end-from, end-within, end-after, length-block, cut-first, cut-data, cut-fits, whole-end, long-first, later-data}
-use Rattle.steps.proofs.Frame.{Steady, kept-long}
-use Rattle.steps.proofs.Channels.{FineEvent, step-own, step-other, step-steady}
+use Rattle.cutting.specs.Cutting.{isFirst, isStart, blockLen, blockEnd, block, cutPdu, cutAt, cutBuffer}
+use Rattle.cutting.specs.declared.Piece.{Piece}
+use Rattle.cutting.specs.declared.Piece.the-variants.{Pdu}
+use Rattle.cutting.proofs.Answers.{given, at-start, unpacked-cut}
+use Rattle.cutting.proofs.Starts.{start-zero, start-next, start-within}
+use Rattle.cutting.proofs.Blocks.{end-is, end-from, end-within, end-after, length-block, cut-first, cut-data, cut-fits, whole-end,
+    long-first, later-data}
+use Rattle.steps.proofs.Frame.{kept-long}
+use Rattle.steps.specs.States.{Steady, FineEvent, isOf}
+use Rattle.steps.proofs.Channels.{step-own, step-other, step-steady}
 use Rattle.steps.proofs.Calm.{steady-sane}
+use Rattle.steps.proofs.Widths.{eventOfRead, encoded-event}
 use Rattle.demands.specs.Trace.{consIf, seen, keep}
-use Rattle.demands.specs.Runs.{Call, after, told, Told, toldTo, ends, eventIn, isOf, isEventOf, ownEvents, firstOf}
-use Rattle.demands.specs.Cut.{cutFrom, cutAll, eventOfPdu, toldFrom, toldAll, HandedUpOnce}
-use Rattle.demands.proofs.Traces.{Input, withFlag, Framed, aloneOuts, aloneFinal, trace-outs, trace-final}
+use Rattle.demands.specs.Runs.{Call, after, told, Told, toldTo, ends, eventIn, isEventOf, ownEvents, firstOf}
+use Rattle.demands.specs.Cut.{Cut, cutOf, Cuts, last-one, one-more, CutByUs, CutFromC, NoneRefused, eventOfPdu, cutEvents, toldFor,
+    HandedUpOnce}
+use Rattle.demands.proofs.Traces.{Input, eventsIn, inputs-events, withFlag, Framed, aloneOuts, aloneFinal, trace-outs, trace-final}
 use Rattle.demands.proofs.Machine.{toldBy, readCall, call-state, fine-call, own-told}
 
 -- ---- a channel in any steady state
@@ -62,7 +72,9 @@ toldIn f v (Unreadable why) = record { answer = Refused why NoChannel; reply = [
 toldIn f v (Capabilities version) = record { answer = Refused WrongTime NoChannel; reply = []; message = [] }
 toldIn f v (Of n a) = toldBy (act (f .level) n (f .room) v a)
 
-own-in : (n : ℕ) (st : State) (c : Call) → Steady st → (e : Event) → eventIn (c .asked) ≡ e → FineEvent e → isOf n e ≡ true → (view n (after st c) ≡ nextIn (around st c) (view n st) e) × (told st c ≡ toldIn (around st c) (view n st) e)
+own-in :
+    (n : ℕ) (st : State) (c : Call) → Steady st → (e : Event) → eventIn (c .asked) ≡ e → FineEvent e → isOf n e ≡ true
+    → (view n (after st c) ≡ nextIn (around st c) (view n st) e) × (told st c ≡ toldIn (around st c) (view n st) e)
 own-in n st c g (Unreadable why) q z h = absurd (true-not-false (sym h))
 own-in n st c g (Capabilities version) q z h = absurd (true-not-false (sym h))
 own-in n st c g (Of m a) q z h =
@@ -86,23 +98,25 @@ message-part : MESSAGE-MAX ≤ PART
 unfolding PART MESSAGE-MAX
 message-part = lit≤ tt
 
-message-small : MESSAGE-MAX < 4294967296
+message-small : MESSAGE-MAX < NUMBERS
 unfolding MESSAGE-MAX
 message-small = lit< tt
 
 -- ---- the events of the cut PDUs
 
-module _ (n : ℕ) (m : List ℕ) (small-number : n < 4294967296) (short-enough : length m ≤ MESSAGE-MAX) where
-  block-event : (at : ℕ) (t : Bool) → isFirst (length m) at ≡ t → eventOfPdu (cutPdu n m at) ≡ Of n (Bring (cond t (First (length m)) More) (block n m at))
-  unfolding eventOfPdu eventOf eventFor actFor carriedBy
+module _ (n : ℕ) (m : List ℕ) (small-number : n < NUMBERS) (short-enough : length m ≤ MESSAGE-MAX) where
+  block-event :
+      (at : ℕ) (t : Bool) → isFirst (length m) at ≡ t
+      → eventOfPdu (cutPdu n m at) ≡ Of n (Bring (cond t (First (length m)) More) (block n m at))
+  unfolding eventOfPdu eventOfRead
   block-event at true e =
       let p = cut-first n m at e in
       let fits = subst (λ (b : List ℕ). length b ≤ PDU-MAX) p (cut-fits n m at) in
-      rw (p, read-data-first true n (length m) (block n m at) small-number (omega (arith, message-small)) fits, first-back n (length m) (block n m at))
+      rw p (encoded-event (data-first n (length m) (block n m at)) _ (data-first-encoded n small-number true (length m) (block n m at) (omega (arith, message-small))) fits [])
   block-event at false e =
       let p = cut-data n m at e in
       let fits = subst (λ (b : List ℕ). length b ≤ PDU-MAX) p (cut-fits n m at) in
-      rw (p, read-data true n (block n m at) small-number fits, block-back n (block n m at))
+      rw p (encoded-event (data-block n (block n m at)) _ (data-encoded n small-number true (block n m at)) fits [])
 
   -- ---- a block that lands where the message stands
 
@@ -112,7 +126,9 @@ module _ (n : ℕ) (m : List ℕ) (small-number : n < 4294967296) (short-enough 
   StageAt at (Joining wanted held) = (0 < at) × ((wanted ≡ length m) × (held ≡ at))
   StageAt at Spoiled = ⊥
 
-  added-at : (at : ℕ) → at ≤ length m → added (length m) at (length (block n m at)) ≡ cond (ltb (blockEnd n (length m) at) (length m)) (Holds (length m) at (blockEnd n (length m) at)) (Finishes at (length m))
+  added-at :
+      (at : ℕ) → at ≤ length m
+      → added (length m) at (length (block n m at)) ≡ cond (ltb (blockEnd n (length m) at) (length m)) (Holds (length m) at (blockEnd n (length m) at)) (Finishes at (length m))
   unfolding added
   added-at at h =
       let l = length-block n m at in
@@ -120,7 +136,9 @@ module _ (n : ℕ) (m : List ℕ) (small-number : n < 4294967296) (short-enough 
       let w = end-within n (length m) at h in
       rw (e, le-ltb (length m) (blockEnd n (length m) at) w) (go (ltb (blockEnd n (length m) at) (length m)) refl w)
     where
-      go : (t : Bool) → ltb (blockEnd n (length m) at) (length m) ≡ t → blockEnd n (length m) at ≤ length m → cond (eqb (blockEnd n (length m) at) (length m)) (Finishes at (length m)) (Holds (length m) at (blockEnd n (length m) at)) ≡ cond t (Holds (length m) at (blockEnd n (length m) at)) (Finishes at (length m))
+      go :
+          (t : Bool) → ltb (blockEnd n (length m) at) (length m) ≡ t → blockEnd n (length m) at ≤ length m
+          → cond (eqb (blockEnd n (length m) at) (length m)) (Finishes at (length m)) (Holds (length m) at (blockEnd n (length m) at)) ≡ cond t (Holds (length m) at (blockEnd n (length m) at)) (Finishes at (length m))
       go true e w =
           let l = ltb-true (blockEnd n (length m) at) (length m) e in
           let d : blockEnd n (length m) at ≡ length m → ⊥ = λ q. omega arith in
@@ -130,14 +148,18 @@ module _ (n : ℕ) (m : List ℕ) (small-number : n < 4294967296) (short-enough 
           rw (eq-eqb (blockEnd n (length m) at) (length m) (omega arith))
 
   -- a message that is one Data
-  one-block : isFirst (length m) 0 ≡ false → Finishes 0 (length (block n m 0)) ≡ cond (ltb (blockEnd n (length m) 0) (length m)) (Holds (length m) 0 (blockEnd n (length m) 0)) (Finishes 0 (length m))
+  one-block :
+      isFirst (length m) 0 ≡ false
+      → Finishes 0 (length (block n m 0)) ≡ cond (ltb (blockEnd n (length m) 0) (length m)) (Holds (length m) 0 (blockEnd n (length m) 0)) (Finishes 0 (length m))
   one-block f =
       let whole : length m ≤ WHOLE-MAX = ⊎-elim (λ (l : WHOLE-MAX < length m). absurd (true-not-false (sym (long-first (length m) l) ∙ f))) (λ (l : length m ≤ WHOLE-MAX). l) (lt-or-le WHOLE-MAX (length m)) in
       let e = whole-end n (length m) whole in
       let l : length (block n m 0) ≡ length m = omega (arith, length-block n m 0, end-is n (length m) 0) in
       rw (l, e, le-ltb (length m) (length m) (omega arith))
 
-  took-at : (at : ℕ) (s : Stage) → StageAt at s → at ≤ length m → (t : Bool) → isFirst (length m) at ≡ t → took s (cond t (First (length m)) More) (length (block n m at)) ≡ cond (ltb (blockEnd n (length m) at) (length m)) (Holds (length m) at (blockEnd n (length m) at)) (Finishes at (length m))
+  took-at :
+      (at : ℕ) (s : Stage) → StageAt at s → at ≤ length m → (t : Bool) → isFirst (length m) at ≡ t
+      → took s (cond t (First (length m)) More) (length (block n m at)) ≡ cond (ltb (blockEnd n (length m) at) (length m)) (Holds (length m) at (blockEnd n (length m) at)) (Finishes at (length m))
   unfolding took begun
   took-at at Idle e h true f = rw (le-ltb MESSAGE-MAX (length m) short-enough, ← e) (added-at at h)
   took-at at Idle e h false f = rw e (one-block (rw e at f))
@@ -150,7 +172,9 @@ module _ (n : ℕ) (m : List ℕ) (small-number : n < 4294967296) (short-enough 
   block-take at = sym (take-add at (blockLen n (length m) at) m)
 
   -- the bytes that are there once the block has landed
-  front-at : (at : ℕ) (part : List ℕ) → length part ≡ PART → at ≤ length m → take at part ≡ take at m → take (blockEnd n (length m) at) (laid part at (block n m at)) ≡ take (blockEnd n (length m) at) m
+  front-at :
+      (at : ℕ) (part : List ℕ) → length part ≡ PART → at ≤ length m → take at part ≡ take at m
+      → take (blockEnd n (length m) at) (laid part at (block n m at)) ≡ take (blockEnd n (length m) at) m
   front-at at part long h same =
       let l = length-block n m at in
       let e = end-is n (length m) at in
@@ -162,14 +186,22 @@ module _ (n : ℕ) (m : List ℕ) (small-number : n < 4294967296) (short-enough 
 
   -- what is told, and the channel then
   abbrev toldOnce : ℕ → Bool → Told
-  toldOnce at true = record { answer = Held n (length m - blockEnd n (length m) at); reply = []; message = [] }
-  toldOnce at false = record { answer = Message n (length m); reply = []; message = m ∷ [] }
+  toldOnce next true = record { answer = Held n (length m - next); reply = []; message = [] }
+  toldOnce next false = record { answer = Message n (length m); reply = []; message = m ∷ [] }
+
+  told-so : (c : Cut) (t : Bool) → ltb (c .next) (length m) ≡ t → toldFor n m c ≡ toldOnce (c .next) t
+  unfolding toldFor
+  told-so c true e = rw e
+  told-so c false e = rw e
 
   abbrev stageThen : ℕ → Bool → Stage
-  stageThen at true = Joining (length m) (blockEnd n (length m) at)
-  stageThen at false = Idle
+  stageThen next true = Joining (length m) next
+  stageThen next false = Idle
 
-  landed-at : (at : ℕ) (r : Record) (part : List ℕ) → length part ≡ PART → at ≤ length m → take at part ≡ take at m → (t : Bool) → ltb (blockEnd n (length m) at) (length m) ≡ t → (toldBy (landed n r part (block n m at) (cond t (Holds (length m) at (blockEnd n (length m) at)) (Finishes at (length m)))) ≡ toldOnce at t) × (landed n r part (block n m at) (cond t (Holds (length m) at (blockEnd n (length m) at)) (Finishes at (length m))) .view ≡ Open (restaged r (stageThen at t)) (laid part at (block n m at)))
+  landed-at :
+      (at : ℕ) (r : Record) (part : List ℕ) → length part ≡ PART → at ≤ length m → take at part ≡ take at m → (t : Bool)
+      → ltb (blockEnd n (length m) at) (length m) ≡ t
+      → (toldBy (landed n r part (block n m at) (cond t (Holds (length m) at (blockEnd n (length m) at)) (Finishes at (length m)))) ≡ toldOnce (blockEnd n (length m) at) t) × (landed n r part (block n m at) (cond t (Holds (length m) at (blockEnd n (length m) at)) (Finishes at (length m))) .view ≡ Open (restaged r (stageThen (blockEnd n (length m) at) t)) (laid part at (block n m at)))
   unfolding landed stageAfter partAfter answerTo restaged firstOf
   landed-at at r part long h same true e = (refl, refl)
   landed-at at r part long h same false e =
@@ -178,18 +210,13 @@ module _ (n : ℕ) (m : List ℕ) (small-number : n < 4294967296) (short-enough 
       let bytes : take (length m) (laid part at (block n m at)) ≡ m = rw (q, take-length m) at (front-at at part long h same) in
       (ap (λ (b : List ℕ). record { answer = Message n (length m); reply = []; message = b ∷ [] }) bytes, refl)
 
-  -- ---- block after block
-
-  pub record Followed (more at : ℕ) (r : Record) (outs : List Told) (w : View) : Type 0 where
-    pub is-told : outs ≡ toldFrom more n m at
-    pub part : List ℕ
-    pub idle : w ≡ Open (restaged r Idle) part
-
-  abbrev events : List (Input Event Around) → List Event
-  events is = map (λ (i : Input Event Around). i .event) is
+  -- ---- call after call
 
   -- one block: what is told, and the channel then
-  one-step : (at : ℕ) (r : Record) (part : List ℕ) → length part ≡ PART → at ≤ length m → take at part ≡ take at m → StageAt at (r .stage) → (f : Around) (e : Event) → e ≡ eventOfPdu (cutPdu n m at) → (t : Bool) → ltb (blockEnd n (length m) at) (length m) ≡ t → (toldIn f (Open r part) e ≡ toldOnce at t) × (nextIn f (Open r part) e ≡ Open (restaged r (stageThen at t)) (laid part at (block n m at)))
+  one-step :
+      (at : ℕ) (r : Record) (part : List ℕ) → length part ≡ PART → at ≤ length m → take at part ≡ take at m → StageAt at (r .stage)
+      → (f : Around) (e : Event) → e ≡ eventOfPdu (cutPdu n m at) → (t : Bool) → ltb (blockEnd n (length m) at) (length m) ≡ t
+      → (toldIn f (Open r part) e ≡ toldOnce (blockEnd n (length m) at) t) × (nextIn f (Open r part) e ≡ Open (restaged r (stageThen (blockEnd n (length m) at) t)) (laid part at (block n m at)))
   unfolding act
   one-step at r part long h same stands f e q t d =
       let event = q ∙ block-event at (isFirst (length m) at) refl in
@@ -205,68 +232,137 @@ module _ (n : ℕ) (m : List ℕ) (small-number : n < 4294967296) (short-enough 
   unfolding restaged
   restaged-stage r s = refl
 
-  -- what is shown of the rest of the blocks
-  abbrev Rest : ℕ → ℕ → List (Input Event Around) → Type 0
-  Rest more at is = (r : Record) (part : List ℕ) → length part ≡ PART → take at part ≡ take at m → StageAt at (r .stage) → Followed more at r (aloneOuts nextIn toldIn (Open r part) is) (aloneFinal nextIn (Open r part) is)
+  -- what is shown of the calls from an offset on
+  record Followed (cs : List Cut) (r : Record) (outs : List Told) (w : View) : Type 0 where
+    pub is-told : outs ≡ map (toldFor n m) cs
+    pub part : List ℕ
+    pub idle : w ≡ Open (restaged r Idle) part
 
-  turn : (more at : ℕ) → at ≤ length m → (i : Input Event Around) (is : List (Input Event Around)) → i .event ≡ eventOfPdu (cutPdu n m at) → (t : Bool) → ltb (blockEnd n (length m) at) (length m) ≡ t → events is ≡ map eventOfPdu (cond t (cutFrom more n m (blockEnd n (length m) at)) []) → (blockEnd n (length m) at < length m → events is ≡ map eventOfPdu (cutFrom more n m (blockEnd n (length m) at)) → Rest more (blockEnd n (length m) at) is) → Rest (suc more) at (i ∷ is)
-  unfolding toldFrom
-  turn more at h i is head true d q ih r part long same stands =
-      let s = one-step at r part long h same stands (i .flag) (i .event) head true d in
-      let below = ltb-true (blockEnd n (length m) at) (length m) d in
-      let onward = end-from n (length m) at in
-      let after-it : 0 < blockEnd n (length m) at = omega (arith, end-after n (length m) at (omega arith)) in
-      let then-stands : StageAt (blockEnd n (length m) at) (restaged r (Joining (length m) (blockEnd n (length m) at)) .stage) = rw (restaged-stage r (Joining (length m) (blockEnd n (length m) at))) (after-it, (refl, refl)) in
-      let f = ih below q (restaged r (Joining (length m) (blockEnd n (length m) at))) (laid part at (block n m at)) (length-laid part at (block n m at) ∙ long) (front-at at part long h same) then-stands in
-      record {
-        is-told = rw (s .0, s .1, d) (ap (λ (l : List Told). toldOnce at true ∷ l) (f .is-told));
-        part = f .part;
-        idle = rw (s .1) (f .idle ∙ ap (λ (x : Record). Open x (f .part)) (restaged-twice r (Joining (length m) (blockEnd n (length m) at))));
-      }
-  turn more at h i [] head false d q ih r part long same stands =
+  abbrev Rest : ℕ → List Cut → List (Input Event Around) → Type 0
+  Rest at cs is =
+      (r : Record) (part : List ℕ) → length part ≡ PART → take at part ≡ take at m → StageAt at (r .stage)
+      → Followed cs r (aloneOuts nextIn toldIn (Open r part) is) (aloneFinal nextIn (Open r part) is)
+
+  -- the last call
+  last-turn :
+      (at : ℕ) (c : Cut) → at ≤ length m → c .next ≡ blockEnd n (length m) at → length m ≤ c .next → (i : Input Event Around)
+      → i .event ≡ eventOfPdu (cutPdu n m at) → Rest at (c ∷ []) (i ∷ [])
+  last-turn at c h next end i head r part long same stands =
+      let d : ltb (blockEnd n (length m) at) (length m) ≡ false = le-ltb (blockEnd n (length m) at) (length m) (omega arith) in
+      let e : ltb (c .next) (length m) ≡ false = le-ltb (c .next) (length m) end in
       let s = one-step at r part long h same stands (i .flag) (i .event) head false d in
-      record { is-told = rw (s .0, d); part = laid part at (block n m at); idle = s .1 }
-  turn more at h i (j ∷ is) head false d q ih r part long same stands = let z : _≡_ {A = ℕ} 0 1 = cc in absurd (omega arith)
+      record { is-told = rw (s .0, told-so c false e); part = laid part at (block n m at); idle = s .1 }
 
-  follow : (more at : ℕ) → length m < at + more → at ≤ length m → (is : List (Input Event Around)) → events is ≡ map eventOfPdu (cutFrom more n m at) → Rest more at is
-  unfolding cutFrom
-  follow zero at fuel h is e = absurd (omega arith)
-  follow (suc more) at fuel h [] e = let z : _≡_ {A = ℕ} 0 1 = cc in absurd (omega arith)
-  follow (suc more) at fuel h (i ∷ is) e =
-      let head : i .event ≡ eventOfPdu (cutPdu n m at) = cc in
-      let tail : events is ≡ map eventOfPdu (cond (ltb (blockEnd n (length m) at) (length m)) (cutFrom more n m (blockEnd n (length m) at)) []) = cc in
-      turn more at h i is head (ltb (blockEnd n (length m) at) (length m)) refl tail
-      (λ below q. follow more (blockEnd n (length m) at) (omega (arith, end-after n (length m) at (omega (arith, end-from n (length m) at)))) (end-within n (length m) at h) is q)
+  -- a call, and the calls behind it
+  turn :
+      (at : ℕ) (c : Cut) (cs : List Cut) → at ≤ length m → c .next ≡ blockEnd n (length m) at → c .next < length m
+      → (i : Input Event Around) (is : List (Input Event Around)) → i .event ≡ eventOfPdu (cutPdu n m at) → Rest (c .next) cs is
+      → Rest at (c ∷ cs) (i ∷ is)
+  turn at c cs h next below i is head later r part long same stands =
+      let d : ltb (blockEnd n (length m) at) (length m) ≡ true = lt-ltb (blockEnd n (length m) at) (length m) (omega arith) in
+      let e : ltb (c .next) (length m) ≡ true = lt-ltb (c .next) (length m) below in
+      let s = one-step at r part long h same stands (i .flag) (i .event) head true d in
+      let joining = Joining (length m) (blockEnd n (length m) at) in
+      let onward = end-from n (length m) at in
+      let beyond : 0 < c .next = omega (arith, end-after n (length m) at (omega arith)) in
+      let then-stands : StageAt (c .next) (restaged r joining .stage) = rw (restaged-stage r joining) (beyond, (refl, sym next)) in
+      let same-front : take (c .next) (laid part at (block n m at)) ≡ take (c .next) m = rw next (front-at at part long h same) in
+      let f = later (restaged r joining) (laid part at (block n m at)) (length-laid part at (block n m at) ∙ long) same-front then-stands in
+      record {
+        is-told = rw (s .0, s .1, told-so c true e, next) (ap (λ (l : List Told). toldOnce (blockEnd n (length m) at) true ∷ l) (f .is-told));
+        part = f .part;
+        idle = rw (s .1) (f .idle ∙ ap (λ (x : Record). Open x (f .part)) (restaged-twice r joining));
+      }
+
+  module _ (lent : ℕ → List ℕ) where
+    follow :
+        (at : ℕ) (cs : List Cut) → Cuts (λ o. cutAt n m o (lent o)) (λ o. cutBuffer n m o (lent o)) (length m) at cs
+        → (is : List (Input Event Around)) → eventsIn is ≡ cutEvents cs → Rest at cs is
+    follow at cs (last-one len next e end) [] q = let z : _≡_ {A = ℕ} 0 1 = cc in absurd (omega arith)
+    follow at cs (last-one len next e end) (i ∷ j ∷ is) q = let z : _≡_ {A = ℕ} 0 1 = cc in absurd (omega arith)
+    follow at cs (last-one len next e end) (i ∷ []) q =
+        let g = given n m at (lent at) len next e in
+        let head : i .event ≡ eventOfPdu (take len (cutBuffer n m at (lent at))) = cc in
+        last-turn at (cutOf (cutBuffer n m at (lent at)) len next) (start-within n (length m) at (g .start)) (g .ends) end i (head ∙ ap eventOfPdu (g .stands))
+    follow at cs (one-more len next rest e below k) [] q = let z : _≡_ {A = ℕ} 0 1 = cc in absurd (omega arith)
+    follow at cs (one-more len next rest e below k) (i ∷ is) q =
+        let g = given n m at (lent at) len next e in
+        let head : i .event ≡ eventOfPdu (take len (cutBuffer n m at (lent at))) = cc in
+        let tail : eventsIn is ≡ cutEvents rest = cc in
+        turn at (cutOf (cutBuffer n m at (lent at)) len next) rest (start-within n (length m) at (g .start)) (g .ends) below i is (head ∙ ap eventOfPdu (g .stands))
+        (follow next rest k is tail)
 
 -- ---- the theorem
 
--- what the inputs of a run read is the channel's own events
-inputs-events : (n : ℕ) (st : State) (xs : List Call) → map (λ (i : Input Event Around). i .event) (seen after (isEventOf n) (withFlag readCall around) st xs) ≡ ownEvents n xs
-unfolding ownEvents
-inputs-events n st [] = refl
-inputs-events n st (c ∷ xs) = go (isEventOf n c) (inputs-events n (after st c) xs)
-  where
-    rest : List (Input Event Around)
-    rest = seen after (isEventOf n) (withFlag readCall around) (after st c) xs
-
-    go : (t : Bool) → map (λ (i : Input Event Around). i .event) rest ≡ map readCall (keep (isEventOf n) xs) → map (λ (i : Input Event Around). i .event) (consIf t (withFlag readCall around st c) rest) ≡ map readCall (consIf t c (keep (isEventOf n) xs))
-    go true h = ap (λ (l : List Event). eventIn (c .asked) ∷ l) h
-    go false h = h
+-- a call that isn't refused has a message of its size
+short-enough-for : (n : ℕ) (m : List ℕ) (lent : ℕ → List ℕ) (cs : List Cut) → CutByUs n m lent cs → length m ≤ MESSAGE-MAX
+short-enough-for n m lent cs (last-one len next e end) = given n m 0 (lent 0) len next e .short-enough
+short-enough-for n m lent cs (one-more len next rest e below k) = given n m 0 (lent 0) len next e .short-enough
 
 pub cut-and-joined :
-    (n : ℕ) (m : List ℕ) → n < 4294967296 → length m ≤ MESSAGE-MAX
+    (n : ℕ) (m : List ℕ) (lent : ℕ → List ℕ) (cs : List Cut) → n < NUMBERS → CutByUs n m lent cs
     → (st : State) → Steady st
     → (r : Record) (part : List ℕ) → view n st ≡ Open r part → r .stage ≡ Idle
-    → (xs : List Call) → ownEvents n xs ≡ map eventOfPdu (cutAll n m)
-    → HandedUpOnce n m r st xs
-unfolding toldTo ends toldAll cutAll
-cut-and-joined n m small short st g r part v idle xs e =
+    → (xs : List Call) → ownEvents n xs ≡ cutEvents cs
+    → HandedUpOnce n m cs r st xs
+unfolding toldTo ends ownEvents
+cut-and-joined n m lent cs small by st g r part v idle xs e =
     let is = seen after (isEventOf n) (withFlag readCall around) st xs in
+    let short = short-enough-for n m lent cs by in
     let long : length part ≡ PART = kept-long n st g r part v in
     let stands : StageAt n m small short 0 (r .stage) = rw idle refl in
-    let f = follow n m small short (suc (length m)) 0 (omega arith) (omega arith) is (inputs-events n st xs ∙ e) r part long refl stands in
+    let events : eventsIn is ≡ cutEvents cs = inputs-events readCall after around (isEventOf n) st xs ∙ e in
+    let f = follow n m small short lent 0 cs by is events r part long refl stands in
     record {
       is-told = trace-outs (framed-steady n) st xs g ∙ ap (λ (w : View). aloneOuts nextIn toldIn w is) v ∙ f .is-told;
       part = f .part;
       idle-again = trace-final (framed-steady n) st xs g ∙ ap (λ (w : View). aloneFinal nextIn w is) v ∙ f .idle;
     }
+
+-- ---- none is refused
+
+-- calls from an offset on
+record Some (n : ℕ) (m : List ℕ) (lent : ℕ → List ℕ) (at : ℕ) : Type 0 where
+  pub cuts : List Cut
+  pub are-cut : Cuts (λ o. cutAt n m o (lent o)) (λ o. cutBuffer n m o (lent o)) (length m) at cuts
+
+module _ (n : ℕ) (m : List ℕ) (short : length m ≤ MESSAGE-MAX) (lent : ℕ → List ℕ) (room : (at : ℕ) → PDU-MAX ≤ length (lent at)) where
+  go : (more at : ℕ) → length m < at + more → isStart n (length m) at ≡ true → Some n m lent at
+  go zero at fuel s = let w = start-within n (length m) at s in absurd (omega arith)
+  go (suc more) at fuel s = by (ltb (blockEnd n (length m) at) (length m)) refl (λ f t. go more (blockEnd n (length m) at) f t)
+    where
+      called : cutAt n m at (lent at) ≡ Pdu (length (cutPdu n m at)) (blockEnd n (length m) at)
+      called = sym (at-start n m at (lent at) (room at) short s .0)
+
+      by :
+          (t : Bool) → ltb (blockEnd n (length m) at) (length m) ≡ t
+          → (length m < blockEnd n (length m) at + more → isStart n (length m) (blockEnd n (length m) at) ≡ true → Some n m lent (blockEnd n (length m) at))
+          → Some n m lent at
+      by true e later =
+          let below = ltb-true (blockEnd n (length m) at) (length m) e in
+          let onward = end-from n (length m) at in
+          let beyond = end-after n (length m) at (omega arith) in
+          let r = later (omega arith) (start-next n (length m) at s below) in
+          record { cuts = _; are-cut = one-more (length (cutPdu n m at)) (blockEnd n (length m) at) (r .cuts) called below (r .are-cut) }
+      by false e later =
+          record { cuts = _; are-cut = last-one (length (cutPdu n m at)) (blockEnd n (length m) at) called (ltb-false (blockEnd n (length m) at) (length m) e) }
+
+  pub none-refused : NoneRefused (CutByUs n m lent)
+  none-refused = let r = go (suc (length m)) 0 (omega arith) (start-zero n (length m)) in record { cuts = r .cuts; are-cut = r .are-cut }
+
+-- ---- the same of `dvc_cut`: its number says what `cut` answers
+
+module _ {one two : ℕ → Piece} (same : (at : ℕ) → one at ≡ two at) (buffer : ℕ → List ℕ) (total : ℕ) where
+  same-calls : (at : ℕ) (cs : List Cut) → Cuts one buffer total at cs → Cuts two buffer total at cs
+  same-calls at cs (last-one len next e end) = last-one len next (sym (same at) ∙ e) end
+  same-calls at cs (one-more len next rest e below k) = one-more len next rest (sym (same at) ∙ e) below (same-calls next rest k)
+
+pub from-c : (n : ℕ) (m : List ℕ) (lent : ℕ → List ℕ) (cs : List Cut) → CutFromC n m lent cs → CutByUs n m lent cs
+from-c n m lent cs k = same-calls (λ at. unpacked-cut n m at (lent at)) (λ at. cutBuffer n m at (lent at)) (length m) 0 cs k
+
+pub none-refused-from-c :
+    (n : ℕ) (m : List ℕ) → length m ≤ MESSAGE-MAX → (lent : ℕ → List ℕ) → ((at : ℕ) → PDU-MAX ≤ length (lent at))
+    → NoneRefused (CutFromC n m lent)
+none-refused-from-c n m short lent room =
+    let r = none-refused n m short lent room in
+    record { cuts = r .cuts; are-cut = same-calls (λ at. sym (unpacked-cut n m at (lent at))) (λ at. cutBuffer n m at (lent at)) (length m) 0 (r .cuts) (r .are-cut) }

@@ -2,7 +2,7 @@
 -- Assumes nothing.
 use mathlib.Core.Path.{_≡_, refl, ap, _∙_}
 use mathlib.Core.Bool.{Bool, true, false, cond}
-use mathlib.Core.List.{List, [], _∷_, _++_, map, append-assoc}
+use mathlib.Core.List.{List, [], _∷_, _++_, append-assoc}
 use mathlib.Core.Logic.{⊎-elim}
 use Prim.Native.Nat.{ℕ, _+_, _-_, _≤_, _<_}
 use native.Mathlib.Omega.{arith}
@@ -20,7 +20,8 @@ use Rattle.reading.specs.Reading.{readPdu}
 use Rattle.reading.specs.Said.{bytesAt}
 use Rattle.reading.specs.declared.Place.{Place}
 use Rattle.reading.specs.declared.Pdu.{Pdu}
-use Rattle.reading.specs.declared.Pdu.the-variants.{CreateRequest, CreateResponse, DataFirst, Data, Close, CapsRequest, CapsResponse, Refused}
+use Rattle.reading.specs.declared.Pdu.the-variants.{CreateRequest, CreateResponse, DataFirst, Data, Close, CapsRequest, CapsResponse,
+    Refused}
 use Rattle.reading.proofs.Placed.{Placed, placed}
 use Rattle.listeners.specs.Listeners.{goodList}
 use Rattle.channel.specs.declared.Stage.{Stage}
@@ -30,20 +31,20 @@ use Rattle.channel.specs.declared.Offer.{Offer}
 use Rattle.channel.specs.declared.Offer.the-variants.{First, More}
 use Rattle.channel.specs.declared.Took.the-variants.{Bars, Spoils, Holds, Finishes}
 use Rattle.channel.specs.Stages.{added, begun, took}
-use Rattle.channel.specs.Channel.{Act, BadCreate, Create, Bring, Closing, LocalClose, View, Shut, Open, Did, openedRecord, restaged, opening, stageAfter, partAfter, answerTo, landed, act}
+use Rattle.channel.specs.Channel.{Act, BadCreate, Create, Bring, Closing, LocalClose, View, Shut, Open, Did, openedRecord, restaged,
+    opening, stageAfter, partAfter, answerTo, landed, act}
 use Rattle.table.specs.Sound.{goodStage}
 use Rattle.table.proofs.Soundness.{joining-bounds, joining-good}
 use Rattle.client.specs.Events.{Event, Unreadable, Capabilities, Of, createAct, eventOf, eventFor, actFor, carriedBy}
-use Rattle.demands.specs.Runs.{Asked, firstOf, eventIn}
-use Rattle.demands.specs.Runs
-use Rattle.demands.specs.Joining.{Join, Off, Quiet, Gathering, Dead, Brings, Nothing, StillToCome, Whole, Joined, still, gathered, startsWith, goesOn, joins, joinAll, broughtBy, brought}
-use Rattle.demands.proofs.Traces.{plain, aloneOuts}
-use Rattle.demands.proofs.Machine.{roomFlag, toldBy, chanNext, chanOut}
+use Rattle.demands.specs.Runs.{Asked, receives, closes, firstOf, eventIn}
+use Rattle.demands.specs.Joining.{Join, Off, Waiting, Gathering, Dead, Brings, NoMessage, StillToCome, Complete, Joined, still,
+    gathered, startsWith, goesOn, joins, broughtBy, brought}
+use Rattle.demands.proofs.Machine.{roomFlag, toldBy}
 
 -- ---- where a view's joining stands
 
 abbrev pub joinAt : Stage → List ℕ → Join
-joinAt Idle part = Quiet
+joinAt Idle part = Waiting
 joinAt (Joining wanted held) part = Gathering wanted (take held part)
 joinAt Spoiled part = Dead
 
@@ -92,14 +93,18 @@ module _ (n : ℕ) (r : Record) (part : List ℕ) (whole : length part ≡ PART)
     laid-whole = length-laid part held block ∙ whole
 
     -- all of it has come
-    all-come : held + length block ≡ wanted → Agrees (landed n r part block (Finishes held wanted)) (record { join = Quiet; brings = Whole (take held part ++ block) })
+    all-come :
+        held + length block ≡ wanted
+        → Agrees (landed n r part block (Finishes held wanted)) (record { join = Waiting; brings = Complete (take held part ++ block) })
     unfolding landed stageAfter partAfter answerTo restaged goodStage broughtBy firstOf
     all-come e =
         let up-bytes : take wanted (laid part held block) ≡ take held part ++ block = rw (← e) (got-bytes (omega arith)) in
-        record { stands = refl; brings = ap Whole up-bytes; sound = (laid-whole, refl) }
+        record { stands = refl; brings = ap Complete up-bytes; sound = (laid-whole, refl) }
 
     -- some of it is still to come
-    some-come : held + length block < wanted → Agrees (landed n r part block (Holds wanted held (held + length block))) (record { join = Gathering wanted (take held part ++ block); brings = StillToCome (wanted - (held + length block)) })
+    some-come :
+        held + length block < wanted
+        → Agrees (landed n r part block (Holds wanted held (held + length block))) (record { join = Gathering wanted (take held part ++ block); brings = StillToCome (wanted - (held + length block)) })
     unfolding landed stageAfter partAfter answerTo restaged broughtBy
     some-come e = record { stands = ap (Gathering wanted) (got-bytes (omega arith)); brings = refl; sound = (laid-whole, joining-good wanted (held + length block) e small) }
 
@@ -107,7 +112,9 @@ module _ (n : ℕ) (r : Record) (part : List ℕ) (whole : length part ≡ PART)
     unfolding added gathered
     add-agrees = rw got-length (go (ltb wanted (held + length block)) refl (eqb (held + length block) wanted) refl)
       where
-        go : (t : Bool) → ltb wanted (held + length block) ≡ t → (u : Bool) → eqb (held + length block) wanted ≡ u → Agrees (landed n r part block (cond t (Spoils PastLength) (cond u (Finishes held wanted) (Holds wanted held (held + length block))))) (cond t (still Dead) (cond u (record { join = Quiet; brings = Whole (take held part ++ block) }) (record { join = Gathering wanted (take held part ++ block); brings = StillToCome (wanted - (held + length block)) })))
+        go :
+            (t : Bool) → ltb wanted (held + length block) ≡ t → (u : Bool) → eqb (held + length block) wanted ≡ u
+            → Agrees (landed n r part block (cond t (Spoils PastLength) (cond u (Finishes held wanted) (Holds wanted held (held + length block))))) (cond t (still Dead) (cond u (record { join = Waiting; brings = Complete (take held part ++ block) }) (record { join = Gathering wanted (take held part ++ block); brings = StillToCome (wanted - (held + length block)) })))
         go true e u f = spoils-agrees block _
         go false e true f = all-come (eqb-true (held + length block) wanted f)
         go false e false f = some-come (omega (arith, ltb-false wanted (held + length block) e, eqb-false (held + length block) wanted f))
@@ -118,16 +125,20 @@ module _ (n : ℕ) (r : Record) (part : List ℕ) (whole : length part ≡ PART)
   unfolding begun startsWith
   first-agrees len block = go (ltb MESSAGE-MAX len) refl
     where
-      go : (t : Bool) → ltb MESSAGE-MAX len ≡ t → Agrees (landed n r part block (cond t (Spoils OverLimit) (added len 0 (length block)))) (cond t (still Dead) (gathered len block))
+      go :
+          (t : Bool) → ltb MESSAGE-MAX len ≡ t
+          → Agrees (landed n r part block (cond t (Spoils OverLimit) (added len 0 (length block)))) (cond t (still Dead) (gathered len block))
       go true e = spoils-agrees block _
       go false e = add-agrees len 0 block (ltb-false MESSAGE-MAX len e) (omega arith)
 
   -- a block that is one message
   one-agrees : (block : List ℕ) → length block ≤ PART → Agrees (landed n r part block (Finishes 0 (length block))) (startsWith More block)
   unfolding landed stageAfter partAfter answerTo restaged goodStage broughtBy firstOf startsWith
-  one-agrees block h = record { stands = refl; brings = ap Whole (front part block (omega arith)); sound = (length-laid part 0 block ∙ whole, refl) }
+  one-agrees block h = record { stands = refl; brings = ap Complete (front part block (omega arith)); sound = (length-laid part 0 block ∙ whole, refl) }
 
-  bring-agrees : (s : Stage) → r .stage ≡ s → goodStage s ≡ true → (offer : Offer) (block : List ℕ) → length block ≤ PART → Agrees (landed n r part block (took s offer (length block))) (joins (joinAt s part) (Bring offer block))
+  bring-agrees :
+      (s : Stage) → r .stage ≡ s → goodStage s ≡ true → (offer : Offer) (block : List ℕ) → length block ≤ PART
+      → Agrees (landed n r part block (took s offer (length block))) (joins (joinAt s part) (Bring offer block))
   unfolding took joins goesOn
   bring-agrees Idle e g (First len) block h = first-agrees len block
   bring-agrees Idle e g More block h = one-agrees block h
@@ -147,7 +158,7 @@ FineBlock (Of n (Bring offer block)) = length block ≤ PART
 FineBlock (Of n Closing) = Unit {0}
 FineBlock (Of n LocalClose) = Unit {0}
 
-stays-agrees : (v : View) → SoundView v → (d : Did) → d .view ≡ v → brought (toldBy d) ≡ Nothing → Agrees d (still (joinOf v))
+stays-agrees : (v : View) → SoundView v → (d : Did) → d .view ≡ v → brought (toldBy d) ≡ NoMessage → Agrees d (still (joinOf v))
 stays-agrees v s d e b = record { stands = ap joinOf e; brings = b; sound = rw e s }
 
 create-agrees : (l n pri : ℕ) (listed : Bool) → Agrees (act l n (roomFlag false) Shut (Create listed pri)) (joins Off (Create listed pri))
@@ -161,25 +172,28 @@ open-create Idle part listed pri = refl
 open-create (Joining wanted held) part listed pri = refl
 open-create Spoiled part listed pri = refl
 
-off-bring : (l n : ℕ) (offer : Offer) (block : List ℕ) → Agrees (act l n (roomFlag false) Shut (Bring offer block)) (joins Off (Bring offer block))
+off-bring :
+    (l n : ℕ) (offer : Offer) (block : List ℕ)
+    → Agrees (act l n (roomFlag false) Shut (Bring offer block)) (joins Off (Bring offer block))
 unfolding act joins broughtBy
 off-bring l n offer block = record { stands = refl; brings = refl; sound = tt }
 
 bad-create : (j : Join) → joins j BadCreate ≡ still j
 unfolding joins
 bad-create Off = refl
-bad-create Quiet = refl
+bad-create Waiting = refl
 bad-create (Gathering wanted got) = refl
 bad-create Dead = refl
 
 close-off : (j : Join) → (joins j Closing ≡ still Off) × (joins j LocalClose ≡ still Off)
 unfolding joins
 close-off Off = (refl, refl)
-close-off Quiet = (refl, refl)
+close-off Waiting = (refl, refl)
 close-off (Gathering wanted got) = (refl, refl)
 close-off Dead = (refl, refl)
 
-pub act-joins : (l n m : ℕ) (v : View) (a : Act) → SoundView v → FineBlock (Of m a) → Agrees (act l n (roomFlag false) v a) (joins (joinOf v) a)
+pub act-joins :
+    (l n m : ℕ) (v : View) (a : Act) → SoundView v → FineBlock (Of m a) → Agrees (act l n (roomFlag false) v a) (joins (joinOf v) a)
 unfolding act broughtBy
 act-joins l n m Shut BadCreate s f = rw bad-create (stays-agrees Shut s _ refl refl)
 act-joins l n m (Open r part) BadCreate s f = rw bad-create (stays-agrees (Open r part) s _ refl refl)
@@ -197,16 +211,6 @@ act-joins l n m (Open r part) LocalClose s f = rw (close-off (joinAt (r .stage) 
 abbrev pub AllFine : List Event → Type 0
 AllFine [] = Unit {0}
 AllFine (e ∷ es) = FineBlock e × AllFine es
-
-pub run-joins : (l : ℕ) (v : View) (es : List Event) → AllFine es → SoundView v → map brought (aloneOuts (chanNext l) (chanOut l) v (map plain es)) ≡ joinAll (joinOf v) es
-unfolding joinAll broughtBy
-run-joins l v [] f s = refl
-run-joins l v (Unreadable why ∷ es) f s = ap (λ (r : List Brings). Nothing ∷ r) (run-joins l v es (f .1) s)
-run-joins l v (Capabilities version ∷ es) f s = ap (λ (r : List Brings). Nothing ∷ r) (run-joins l v es (f .1) s)
-run-joins l v (Of n a ∷ es) f s =
-    let g = act-joins l n n v a s (f .0) in
-    let rest = run-joins l (act l n (roomFlag false) v a .view) es (f .1) (g .sound) in
-    rw (g .brings, rest, g .stands)
 
 -- ---- what is read in a PDU
 
@@ -248,5 +252,5 @@ read-blocks list pdu =
 
 pub call-blocks : (a : Asked) → FineBlock (eventIn a)
 unfolding eventIn
-call-blocks (Runs.Pdu list pdu) = read-blocks list pdu
-call-blocks (Runs.Close n) = tt
+call-blocks (receives list pdu) = read-blocks list pdu
+call-blocks (closes n) = tt

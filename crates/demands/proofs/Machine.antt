@@ -26,7 +26,8 @@ use Rattle.channel.specs.declared.Took.the-variants.{Bars, Spoils, Holds, Finis
 use Rattle.channel.specs.declared.Answer.{Answer}
 use Rattle.channel.specs.declared.Answer.the-variants.{Ready, Opened, Declined, Held, Message, Closed, Ignored, Refused}
 use Rattle.channel.specs.Stages.{took}
-use Rattle.channel.specs.Channel.{Act, BadCreate, Create, Bring, Closing, LocalClose, View, Shut, Open, Room, NoRoom, Spare, Did, opening, answerTo, landed, act}
+use Rattle.channel.specs.Channel.{Act, BadCreate, Create, Bring, Closing, LocalClose, View, Shut, Open, Room, NoRoom, Spare, Did, opening,
+    answerTo, landed, act}
 use Rattle.table.specs.Table.{freePlace, recordAt, withRecord}
 use Rattle.table.proofs.Records.{free-at}
 use Rattle.store.specs.Parts.{part}
@@ -35,19 +36,13 @@ use Rattle.client.specs.Events.{Event, Unreadable, Capabilities, Of, eventOf}
 use Rattle.client.specs.Client.{stepped, badCall, Whole, wholeOf, received, locallyClosed}
 use Rattle.client.proofs.Steps.{room-none, room-spare}
 use Rattle.client.proofs.Calls.{passes}
-use Rattle.steps.proofs.Frame.{Steady}
-use Rattle.steps.proofs.Acts.{FineAct}
-use Rattle.steps.proofs.Channels.{FineEvent, ruled, step-answer, step-reply, step-state, step-own, step-other, step-steady, step-caps}
-use Rattle.steps.proofs.Calm.{Sane, Calm, sane-steady, steady-sane, calm-step, fine-pdu}
+use Rattle.steps.specs.States.{Steady, FineAct, FineEvent, ruled, Sane, Calm, isOf}
+use Rattle.steps.proofs.Channels.{step-answer, step-reply, step-state, step-own, step-other, step-steady, step-caps}
+use Rattle.steps.proofs.Calm.{sane-steady, steady-sane, calm-step, fine-pdu}
 use Rattle.channel.specs.declared.Concern.the-variants.{NoChannel}
 use Rattle.demands.proofs.Traces.{Framed}
-use Rattle.demands.specs.Runs.{Asked, Pdu, Close, Call, gives, after, firstOf, handedUp, Told, told, eventIn, isOf, isEventOf, fullTable, asksRoom, eventMeetsFull, meetsFull}
-
--- a state of a run once the connection is ready, at a level
-pub record Running (l : ℕ) (st : State) : Type 0 where
-  pub calm : Calm st
-  pub ready : st .table .ready ≡ true
-  pub level : st .table .level ≡ l
+use Rattle.demands.specs.Runs.{Asked, receives, closes, Call, gives, after, firstOf, handedUp, Told, told, eventIn, isEventOf,
+    fullTable, asksRoom, eventMeetsFull, meetsFull, Running}
 
 pub steady : (l : ℕ) (st : State) → Running l st → Steady st
 steady l st g = sane-steady st (g .calm .sane) (g .ready)
@@ -64,13 +59,13 @@ unfolding gives eventIn received locallyClosed
 call-step st c s = go (c .asked)
   where
     go : (a : Asked) → gives st a (c .reply) ≡ wholeOf (c .reply) (stepped st (eventIn a))
-    go (Pdu list pdu) = passes (st .table) (st .store) (c .reply) (stepped st (eventOf list pdu (readPdu true pdu))) (not-bad st c s)
-    go (Close n) = passes (st .table) (st .store) (c .reply) (stepped st (Of n LocalClose)) (not-bad st c s)
+    go (receives list pdu) = passes (st .table) (st .store) (c .reply) (stepped st (eventOf list pdu (readPdu true pdu))) (not-bad st c s)
+    go (closes n) = passes (st .table) (st .store) (c .reply) (stepped st (Of n LocalClose)) (not-bad st c s)
 
 pub fine-call : (a : Asked) → FineEvent (eventIn a)
 unfolding eventIn
-fine-call (Pdu list pdu) = fine-pdu list pdu
-fine-call (Close n) = tt
+fine-call (receives list pdu) = fine-pdu list pdu
+fine-call (closes n) = tt
 
 pub call-state : (st : State) (c : Call) → Sane st → after st c ≡ stepped st (eventIn (c .asked)) .state
 unfolding after wholeOf
@@ -130,7 +125,8 @@ flag-same l n full (Open r b) (Bring offer bytes) = refl
 flag-same l n full (Open r b) Closing = refl
 flag-same l n full (Open r b) LocalClose = refl
 
-pub ruled-flag : (l : ℕ) (st : State) → Running l st → (n : ℕ) (a : Act) → ruled n st a ≡ act l n (roomFlag (eventMeetsFull st (Of n a))) (view n st) a
+pub ruled-flag :
+    (l : ℕ) (st : State) → Running l st → (n : ℕ) (a : Act) → ruled n st a ≡ act l n (roomFlag (eventMeetsFull st (Of n a))) (view n st) a
 unfolding eventMeetsFull
 ruled-flag l st g n a =
     ap (λ (level : ℕ). act level n (roomIn st) (view n st) a) (g .level)
@@ -150,20 +146,25 @@ up w (Closed n) = []
 up w (Ignored n) = []
 up w (Refused why concern) = []
 
-landed-up : (n : ℕ) (r : Record) (part bytes : List ℕ) (t : Took) (st : State) → handedUp st (landed n r part bytes t .answer) ≡ up (view n st) (landed n r part bytes t .answer)
+landed-up :
+    (n : ℕ) (r : Record) (part bytes : List ℕ) (t : Took) (st : State)
+    → handedUp st (landed n r part bytes t .answer) ≡ up (view n st) (landed n r part bytes t .answer)
 unfolding landed answerTo handedUp
 landed-up n r part bytes (Bars why) st = refl
 landed-up n r part bytes (Spoils why) st = refl
 landed-up n r part bytes (Holds wanted at held) st = refl
 landed-up n r part bytes (Finishes at len) st = refl
 
-opening-up : (l n pri : ℕ) (room : Room) (st : State) → handedUp st (opening l n pri room .answer) ≡ up (view n st) (opening l n pri room .answer)
+opening-up :
+    (l n pri : ℕ) (room : Room) (st : State) → handedUp st (opening l n pri room .answer) ≡ up (view n st) (opening l n pri room .answer)
 unfolding opening handedUp
 opening-up l n pri NoRoom st = refl
 opening-up l n pri (Spare p) st = refl
 
 -- a channel's answer speaks of that channel's message
-act-up : (l n : ℕ) (room : Room) (v : View) (a : Act) (st : State) → handedUp st (act l n room v a .answer) ≡ up (view n st) (act l n room v a .answer)
+act-up :
+    (l n : ℕ) (room : Room) (v : View) (a : Act) (st : State)
+    → handedUp st (act l n room v a .answer) ≡ up (view n st) (act l n room v a .answer)
 unfolding act handedUp
 act-up l n room Shut BadCreate st = refl
 act-up l n room Shut (Create true pri) st = opening-up l n pri room st
@@ -214,10 +215,13 @@ act-short l n room (Open r b) LocalClose = close-short n
 abbrev pub toldBy : Did → Told
 toldBy d = record { answer = d .answer; reply = d .reply; message = up (d .view) (d .answer) }
 
-same-told : {a b : Answer} {r q : List ℕ} {m k : List (List ℕ)} → a ≡ b → r ≡ q → m ≡ k → _≡_ {A = Told} (record { answer = a; reply = r; message = m }) (record { answer = b; reply = q; message = k })
+pub same-told :
+    {a b : Answer} {r q : List ℕ} {m k : List (List ℕ)} → a ≡ b → r ≡ q → m ≡ k
+    → _≡_ {A = Told} (record { answer = a; reply = r; message = m }) (record { answer = b; reply = q; message = k })
 same-told p q r = cc
 
-pub own-told : (st : State) (c : Call) → Steady st → (n : ℕ) (a : Act) → FineAct a → eventIn (c .asked) ≡ Of n a → told st c ≡ toldBy (ruled n st a)
+pub own-told :
+    (st : State) (c : Call) → Steady st → (n : ℕ) (a : Act) → FineAct a → eventIn (c .asked) ≡ Of n a → told st c ≡ toldBy (ruled n st a)
 unfolding told wholeOf
 own-told st c s n a z e =
     let d = ruled n st a in
@@ -247,7 +251,9 @@ chanOut l full v (Of n a) = toldBy (act l n (roomFlag full) v a)
 abbrev pub readCall : Call → Event
 readCall c = eventIn (c .asked)
 
-own-next : (l n : ℕ) (st : State) (c : Call) → Running l st → (e : Event) → eventIn (c .asked) ≡ e → FineEvent e → isOf n e ≡ true → (view n (after st c) ≡ chanNext l (eventMeetsFull st e) (view n st) e) × (told st c ≡ chanOut l (eventMeetsFull st e) (view n st) e)
+own-next :
+    (l n : ℕ) (st : State) (c : Call) → Running l st → (e : Event) → eventIn (c .asked) ≡ e → FineEvent e → isOf n e ≡ true
+    → (view n (after st c) ≡ chanNext l (eventMeetsFull st e) (view n st) e) × (told st c ≡ chanOut l (eventMeetsFull st e) (view n st) e)
 own-next l n st c g (Unreadable why) q z h = absurd (true-not-false (sym h))
 own-next l n st c g (Capabilities version) q z h = absurd (true-not-false (sym h))
 own-next l n st c g (Of m a) q z h =

@@ -1,191 +1,192 @@
--- THE DEMANDS, on one page. Each statement is over the definitions that the contracts of `client`, `reading`, `writing` and `cutting`
--- cite, and its last line names the file with the proof. The definitions are in specs/ of this crate and of the crates named.
--- Assumes nothing.
-use mathlib.Core.Path.{_≡_}
-use mathlib.Core.Logic.{_≢_}
-use mathlib.Core.Bool.{Bool, true, false}
-use mathlib.Core.List.{List, [], _∷_, _++_, map}
-use Prim.Native.Nat.{ℕ, _≤_, _<_}
-use lib.IntN.{ℤ, pos}
-use lib.ListN.{length}
-use mir.Syntax.{w32}
-use mir.Val.{SFits}
-use Rattle.paper.specs.Sizes.{PARTS, PART, STORE, MESSAGE-MAX}
-use Rattle.paper.specs.Commands.{CREATE, DATA-FIRST, DATA, CLOSE, CAPABILITIES}
-use Rattle.paper.specs.declared.Refusal.{Refusal}
-use Rattle.paper.specs.declared.Refusal.the-variants.{WrongSize}
-use Rattle.lists.specs.Bytes.{zeros}
-use Rattle.reading.specs.declared.Charges.{Charges}
-use Rattle.reading.specs.Said.{row}
-use Rattle.laying.specs.Laying.{createRequestBytes, createResponseBytes, dataFirstBytes, dataBytes, closeBytes, capsRequestBytes, capsResponseBytes}
-use Rattle.writing.specs.Writing.{badRequest, badVersion, badCapabilities}
-use Rattle.writing.specs.ReadBack.{ReadsBack}
-use Rattle.writing.proofs.ReadBack.{Small}
+-- THE DEMANDS, on one page, in their own order and words. Each line has a statement, whose text stands in specs/ of
+-- this crate under the name given, over the definitions that the contracts cite; and where its proof is. What a
+-- reader must believe is in specs/. Assumes nothing.
+use Rattle.demands.specs.Demand1.{AnyOrderOfCalls, BadInputGetsItsNumber, ARefusalLeavesAll}
+use Rattle.demands.specs.Demand2.{PdusAreReadSo, PdusAreWrittenSo, StepsAreSo, WhatWeWriteWeReadBack,
+    CutByUsIsHandedUpOnce}
+use Rattle.demands.specs.Demand3.{AConnectionJustMadeReady, TwoOrdersMeanThis, EitherOrderIsTheSame,
+    NothingTwice}
+use Rattle.demands.specs.Useless.{UselessManagersHaveThemNot, right}
+use Rattle.demands.specs.Starred.{Starred}
+use mathlib.Core.Bool.{true}
+use Rattle.numbers.proofs.Widths as widths
+use Rattle.reading.proofs.Placed.{placed}
+use Rattle.reading.proofs.Grammar as grammar
+use Rattle.reading.proofs.Layouts as layouts
+use Rattle.laying.proofs.Encoded as encoded
 use Rattle.writing.proofs.SameValues as same-values
-use Rattle.channel.specs.declared.Record.{Record}
-use Rattle.channel.specs.declared.Stage.the-variants.{Idle}
-use Rattle.channel.specs.declared.Concern.{Concern}
-use Rattle.channel.specs.declared.Answer.the-variants.{Refused}
-use Rattle.channel.specs.Channel.{Act, Create, Shut, Open, openedRecord}
-use Rattle.table.specs.declared.Table.{Table}
-use Rattle.table.specs.Sound.{soundTable}
-use Rattle.store.specs.Parts.{part}
-use Rattle.table.specs.Table.{emptyTable, numberPlace}
-use Rattle.client.specs.State.{State, view}
-use Rattle.client.specs.Events.{Event, Of, closeAct}
-use Rattle.client.specs.declared.Begun.the-variants.{Done, Refused as NotBegun}
-use Rattle.client.specs.Client.{stepped, badCall, received, locallyClosed, started, storeStarted}
-use Rattle.steps.specs.Rows.{verdictOf, firstHeld, receiveRows, closeRows}
-use Rattle.steps.proofs.Frame.{Steady, FreePartsAreZero}
-use Rattle.steps.proofs.Acts.{FineAct}
-use Rattle.steps.proofs.Channels.{FineEvent, isOf, ruled}
-use Rattle.steps.proofs.Leaves.{RefusedCall}
-use Rattle.steps.proofs.Channels as channels
+use Rattle.writing.proofs.Refusals as writing
+use Rattle.cutting.proofs.Refusals as cutting
+use Rattle.reading.specs.Reading.{readPdu}
+use Rattle.steps.proofs.Calm as calm
 use Rattle.steps.proofs.Refusals as refusals
 use Rattle.steps.proofs.Leaves as leaves
-use Rattle.steps.proofs.Calm as calm
+use Rattle.steps.proofs.Channels as channels
 use Rattle.steps.proofs.Touches as touches
-use Rattle.demands.specs.Runs.{Call, after, toldTo, ends, eventIn, isEventOf, ownEvents, eventMeetsFull}
-use Rattle.demands.specs.Joining.{Off, brought, joinAll}
-use Rattle.demands.specs.Orders.{JustReady, TwoOrders, NeverFull, Demand3, fullFlags, SameForOne}
-use Rattle.demands.specs.Cut.{cutAll, eventOfPdu, HandedUpOnce}
-use Rattle.demands.proofs.Machine.{Running}
+use Rattle.steps.proofs.Widths as values
 use Rattle.demands.proofs.Orders as orders
-use Rattle.demands.proofs.Sanity as sanity
-use Rattle.demands.proofs.Sanity.{isFull}
-use Rattle.demands.proofs.Cut as cut
-use Rattle.demands.specs.Managers.{ours, Demand2Of, Demand3Of}
-use Rattle.demands.specs.Starred.{Starred}
 use Rattle.demands.proofs.Twice as twice
+use Rattle.demands.proofs.Sanity as sanity
+use Rattle.demands.proofs.Cut as cut
+use Rattle.demands.proofs.Ready as ready
 use Rattle.demands.proofs.Managers as managers
+use Rattle.demands.proofs.Third as third
+use Rattle.demands.proofs.ByFlags as right-one
+use Rattle.demands.proofs.Useless as useless
+use Rattle.demands.proofs.Unseen as unseen
 use Rattle.demands.proofs.Starred as stars
 
--- ---- Demand 1. Bad input gets its refusal; a refusal writes nothing and changes no channel, but that three spoil one
+-- ======== Demand 1
 
--- Start: refusal 1 on a store of another size, which is left; the table is the empty one, refused or not
-pub start-on-its-store : (store : List ℕ) → length store ≡ STORE → (started store ≡ record { table = emptyTable; begun = Done }) × (storeStarted store ≡ zeros STORE)
-start-on-its-store = leaves.start-done
+-- "Every entry open to callers takes any bytes, any lengths and any order of calls, and comes to an end."
+pub any-order-of-calls : AnyOrderOfCalls
+any-order-of-calls =
+    record {
+      receive = calm.receive-sound;
+      local-close = calm.local-close-sound;
+      from-start = λ store size xs. orders.calm-run _ (orders.calm-started store size) xs;
+      no-refusal-1 = orders.never-refusal-1;
+    }
 
-pub start-on-another : (store : List ℕ) → length store ≢ STORE → (started store ≡ record { table = emptyTable; begun = NotBegun WrongSize }) × (storeStarted store ≡ store)
-start-on-another = leaves.start-refused
+-- "Bad input gets the refusal number that the build paper lists for it."
+pub bad-input-gets-its-number : BadInputGetsItsNumber
+bad-input-gets-its-number =
+    record {
+      start = refusals.start-refusals;
+      receive = refusals.receive-outcome;
+      local-close = refusals.local-close-outcome;
+      reading = layouts.reading-refusals;
+      writing = writing.writing-refusals;
+      cutting = cutting.cutting-refusals;
+    }
 
--- a received PDU: for any table, store, list, PDU and reply, the refusal is the first row of the paper's table that holds, and none
--- if none holds
-pub each-refusal-when-its-row-holds : (t : Table) (store list pdu reply : List ℕ) → verdictOf (received t store list pdu reply .result .answer) ≡ firstHeld (receiveRows t store list pdu reply)
-each-refusal-when-its-row-holds = refusals.receive-refusals
+-- "A refusal writes nothing to the reply or to the message store and changes no channel, except that three listed
+-- refusals mark the one channel concerned as spoiled."
+pub a-refusal-leaves-all : ARefusalLeavesAll
+a-refusal-leaves-all =
+    record {
+      receive = leaves.receive-refused;
+      local-close = leaves.local-close-refused;
+      start = leaves.start-left;
+      writing = writing.writing-leaves;
+      cutting = cutting.cutting-leaves;
+    }
 
-pub a-refusal-leaves : (t : Table) (store list pdu reply : List ℕ) (why : Refusal) (concern : Concern) → length (t .records) ≡ PARTS → received t store list pdu reply .result .answer ≡ Refused why concern → RefusedCall t store reply (received t store list pdu reply) why
-a-refusal-leaves = leaves.receive-refused
+-- ======== Demand 2
 
-pub a-sound-table-stays-sound : (t : Table) (store list pdu reply : List ℕ) → length (t .records) ≡ PARTS → soundTable t ≡ true → soundTable (received t store list pdu reply .result .table) ≡ true
-a-sound-table-stays-sound = calm.receive-sound
+-- "PDUs are read and written, channels opened and closed, and messages cut and joined as [MS-RDPEDYC] version 17.0
+-- and the build paper define."
+pub pdus-are-read-so : PdusAreReadSo
+pdus-are-read-so = record { exactly = grammar.exactly; one-meaning = grammar.unambiguous; by-value = values.same-call }
 
--- a local close: the same
-pub each-refusal-of-a-local-close : (t : Table) (store : List ℕ) (n : ℕ) (reply : List ℕ) → verdictOf (locallyClosed t store n reply .result .answer) ≡ firstHeld (closeRows t store n reply)
-each-refusal-of-a-local-close = refusals.local-close-refusals
+pub pdus-are-written-so : PdusAreWrittenSo
+pdus-are-written-so =
+    record {
+      narrowest = widths.is-narrowest;
+      create-request = encoded.create-request-encoded;
+      create-response = encoded.create-response-encoded;
+      data-first = encoded.data-first-encoded;
+      data-block = encoded.data-encoded;
+      close = encoded.close-encoded;
+      capabilities-request = same-values.caps-request-good;
+      capabilities-response = encoded.caps-response-encoded;
+    }
 
-pub a-refused-local-close-leaves : (t : Table) (store : List ℕ) (n : ℕ) (reply : List ℕ) (why : Refusal) (concern : Concern) → length (t .records) ≡ PARTS → locallyClosed t store n reply .result .answer ≡ Refused why concern → RefusedCall t store reply (locallyClosed t store n reply) why
-a-refused-local-close-leaves = leaves.local-close-refused
+pub steps-are-so : StepsAreSo
+steps-are-so =
+    record {
+      every-call = managers.ours-demand-2;
+      own = channels.step-own;
+      answer = channels.step-answer;
+      reply = channels.step-reply;
+      others = channels.step-other;
+      no-byte-outside = touches.step-parts;
+      close-frees = touches.close-frees;
+      opening-is-new = twice.opening-is-new;
+      whatever-list = λ st g one two pdu. touches.two-lists st g one two pdu (readPdu true pdu) (placed pdu true);
+      start = leaves.start-done;
+    }
 
-pub a-local-close-keeps-it-sound : (t : Table) (store : List ℕ) (n : ℕ) (reply : List ℕ) → length (t .records) ≡ PARTS → soundTable t ≡ true → soundTable (locallyClosed t store n reply .result .table) ≡ true
-a-local-close-keeps-it-sound = calm.local-close-sound
+-- "What we write we read back as the same values."
+pub what-we-write-we-read-back : WhatWeWriteWeReadBack
+what-we-write-we-read-back =
+    record {
+      create-request = same-values.create-request-reads;
+      create-response = same-values.create-response-reads;
+      data-first = same-values.data-first-reads;
+      data-block = same-values.data-reads;
+      close = same-values.close-reads;
+      capabilities-request = same-values.caps-request-reads;
+      capabilities-response = same-values.caps-response-reads;
+    }
 
--- ---- Demand 2. What we write we read back: for each kind, the bytes that its writer puts into any buffer, read in their direction
+-- "A message of up to 4,096 bytes, cut by us and received on an open, idle channel, is handed up once, with the same
+-- bytes."
+pub cut-by-us-is-handed-up-once : CutByUsIsHandedUpOnce
+cut-by-us-is-handed-up-once =
+    record {
+      none-refused = cut.none-refused;
+      handed-up-once = cut.cut-and-joined;
+      none-refused-from-c = cut.none-refused-from-c;
+      from-c = cut.from-c;
+    }
 
-pub a-create-request-reads-back : (number class : ℕ) (name : List ℕ) → number < 4294967296 → ReadsBack true (badRequest class name) (createRequestBytes number class name) (row CREATE (pos number ∷ pos class ∷ []) name)
-a-create-request-reads-back = same-values.create-request-reads
+-- ======== Demand 3
 
-pub a-create-response-reads-back : (number : ℕ) (status : ℤ) → number < 4294967296 → SFits w32 status → ReadsBack false false (createResponseBytes number status) (row CREATE (pos number ∷ status ∷ []) [])
-a-create-response-reads-back = same-values.create-response-reads
+-- "Take a connection just made ready, with one listener list and one store throughout, and proper buffers at each
+-- call."
+pub a-connection-just-made-ready : AConnectionJustMadeReady
+a-connection-just-made-ready =
+    record { state = ready.readyState; is-ready = ready.just-ready; runs-on = orders.runs-at-its-level }
 
-pub a-data-first-reads-back : (fromServer : Bool) (number len : ℕ) (block : List ℕ) → number < 4294967296 → len < 4294967296 → ReadsBack fromServer false (dataFirstBytes number len block) (row DATA-FIRST (pos number ∷ pos len ∷ []) block)
-a-data-first-reads-back = same-values.data-first-reads
+-- "Take two orders of the same received PDUs and local closes that keep each channel's own events in order, and
+-- suppose that neither order meets a full table."
+pub two-orders-mean-this : TwoOrdersMeanThis
+two-orders-mean-this = record { an-exchange = sanity.swap; full-is-the-answer-full = sanity.meets-answer }
 
-pub a-data-reads-back : (fromServer : Bool) (number : ℕ) (block : List ℕ) → number < 4294967296 → ReadsBack fromServer false (dataBytes number block) (row DATA (pos number ∷ []) block)
-a-data-reads-back = same-values.data-reads
+-- "Then each channel gets the same answers and replies, and its messages are exactly those that demand 2 gives for
+-- its own events alone, each once. At the end each open channel has the same record and the same stored bytes. Only
+-- where in the store a channel stands may differ."
+pub either-order-is-the-same : EitherOrderIsTheSame
+either-order-is-the-same =
+    record {
+      each-channel = orders.same-either-way;
+      at-the-end = orders.same-but-places;
+      of-ours = third.ours-demand-3;
+      strangers = orders.strangers;
+    }
 
-pub a-close-reads-back : (fromServer : Bool) (number : ℕ) → number < 4294967296 → ReadsBack fromServer false (closeBytes number) (row CLOSE (pos number ∷ []) [])
-a-close-reads-back = same-values.close-reads
+-- ======== Behind them
 
-pub a-capabilities-request-reads-back : (version : ℕ) (charges : Charges) → version < 65536 → Small charges → ReadsBack true (badCapabilities version charges) (capsRequestBytes version charges) (row CAPABILITIES (pos version ∷ pos (charges .class0) ∷ pos (charges .class1) ∷ pos (charges .class2) ∷ pos (charges .class3) ∷ []) [])
-a-capabilities-request-reads-back = same-values.caps-request-reads
+-- Nothing twice, the fault that this product exists for
+pub nothing-twice : NothingTwice
+nothing-twice =
+    record { told-alone = twice.nothing-twice; no-trace = twice.no-trace; a-close-shuts = twice.closed-shut }
 
-pub a-capabilities-response-reads-back : (version : ℕ) → version < 65536 → ReadsBack false (badVersion version) (capsResponseBytes version) (row CAPABILITIES (pos version ∷ []) [])
-a-capabilities-response-reads-back = same-values.caps-response-reads
+-- Managers that nobody would want don't have demands 2 and 3, each by name
+pub useless-managers-have-them-not : UselessManagersHaveThemNot
+useless-managers-have-them-not =
+    record {
+      refuses-or-declines-everything = λ m h. useless.neither m (useless.only-no-not-3 m h);
+      gives-one-fixed-answer = λ m a h. useless.neither m (useless.always-not-3 m a h);
+      never-stores = useless.neither _ useless.storeless-not-3;
+      joins-the-first-only = useless.neither _ useless.first-only-not-3;
+      invents-its-count = λ count. useless.neither _ (useless.invents-not-3 count);
+      hands-up-twice = useless.neither _ useless.twice-not-3;
+      keeps-over-a-reopening = useless.neither _ useless.keeps-not-3;
+      disturbs-another-channel = useless.neither _ useless.disturbs-not-3;
+      replays-at-unreadable-pdus = useless.neither _ useless.replayer-not-3;
+      invents-its-count-later = λ count. useless.neither _ (useless.invents-later-not-3 count);
+      goes-on-over-a-new-start = useless.neither _ useless.goes-on-not-3;
+      right-until-full = (useless.until-full-not-2, unseen.until-full-3);
+      never-declines-for-full = (useless.never-declines-not-2, unseen.never-declines-3);
+      answers-a-wrong-level = (useless.wrong-level-not-2, unseen.wrong-level-3);
+      without-the-fault = (right-one.right-demand-2, third.two-gives-three right right-one.right-demand-2);
+    }
 
--- the steps, for every event on any sound, ready table with any store of its size
-
-pub the-channel-follows-its-rules : (st : State) → Steady st → (n : ℕ) (a : Act) → FineAct a → view n (stepped st (Of n a) .state) ≡ ruled n st a .view
-the-channel-follows-its-rules = channels.step-own
-
-pub the-answer-is-the-rules : (st : State) → Steady st → (n : ℕ) (a : Act) → stepped st (Of n a) .answer ≡ ruled n st a .answer
-the-answer-is-the-rules = channels.step-answer
-
-pub the-reply-is-the-rules : (st : State) → Steady st → (n : ℕ) (a : Act) → stepped st (Of n a) .reply ≡ ruled n st a .reply
-the-reply-is-the-rules = channels.step-reply
-
-pub every-other-channel-is-untouched : (n : ℕ) (st : State) → Steady st → (e : Event) → FineEvent e → isOf n e ≡ false → view n (stepped st e .state) ≡ view n st
-every-other-channel-is-untouched = channels.step-other
-
-pub no-byte-outside-the-part : (n : ℕ) (st : State) → Steady st → (a : Act) → FineAct a → (j : ℕ) → j ≢ numberPlace n (st .table) → part (stepped st (Of n a) .state .store) j ≡ part (st .store) j
-no-byte-outside-the-part = touches.step-parts
-
--- a message of up to 4,096 bytes, cut by us and received on an open, idle channel, is handed up once, with the same bytes
-pub cut-and-joined :
-    (n : ℕ) (m : List ℕ) → n < 4294967296 → length m ≤ MESSAGE-MAX
-    → (st : State) → Steady st
-    → (r : Record) (bytes : List ℕ) → view n st ≡ Open r bytes → r .stage ≡ Idle
-    → (xs : List Call) → ownEvents n xs ≡ map eventOfPdu (cutAll n m)
-    → HandedUpOnce n m r st xs
-cut-and-joined = cut.cut-and-joined
-
--- ---- Demand 3. Two orders of the same events
-
-pub two-orders : Demand3
-two-orders = orders.demand-3
-
--- the general form: two runs from one state, the channel's own events and the full-table flags the same, all else arbitrary
-pub strangers : (l : ℕ) (st : State) → Running l st → (n : ℕ) (xs ys : List Call) → ownEvents n xs ≡ ownEvents n ys → fullFlags n st xs ≡ fullFlags n st ys → SameForOne st xs ys n
-strangers = orders.strangers
-
--- what it supposes: exchanging two neighbours that are not both events of one channel is such a reordering, and an event 'meets a
--- full table' exactly when its answer is declined, full
-pub an-exchange-is-a-reordering : (zs ws : List Call) (x y : Call) → ((n : ℕ) → isEventOf n x ≡ true → isEventOf n y ≡ true → ⊥) → TwoOrders (zs ++ (x ∷ y ∷ ws)) (zs ++ (y ∷ x ∷ ws))
-an-exchange-is-a-reordering = sanity.swap
-
-pub full-is-the-answer-full : (l : ℕ) (st : State) → Running l st → (n : ℕ) (a : Act) → isFull (stepped st (Of n a) .answer) ≡ eventMeetsFull st (Of n a)
-full-is-the-answer-full = sanity.meets-answer
-
--- ---- Nothing twice, and no refusal 1, in any run from a connection just made ready
-
-pub nothing-twice : (st : State) → JustReady st → (ys xs : List Call) (n : ℕ) → view n (ends st ys) ≡ Shut → NeverFull (ends st ys) xs → map brought (toldTo n (ends st ys) xs) ≡ joinAll Off (ownEvents n xs)
-nothing-twice = twice.nothing-twice
-
--- a close shuts the channel, and an opening finds it as one never used
-pub a-close-shuts : (l : ℕ) (st : State) → Running l st → (c : Call) (n : ℕ) (local : Bool) → eventIn (c .asked) ≡ Of n (closeAct local) → view n (after st c) ≡ Shut
-a-close-shuts = twice.closed-shut
-
-pub an-opening-is-new : (l : ℕ) (st : State) → Running l st → (c : Call) (n pri : ℕ) → FineAct (Create true pri) → eventIn (c .asked) ≡ Of n (Create true pri) → view n st ≡ Shut → eventMeetsFull st (Of n (Create true pri)) ≡ false → view n (after st c) ≡ Open (openedRecord l n pri) (zeros PART)
-an-opening-is-new = twice.opening-is-new
-
-pub every-state-is-sound : (st : State) → JustReady st → (xs : List Call) → soundTable (ends st xs .table) ≡ true
-every-state-is-sound st j xs = twice.runs-on st j xs .calm .sane .sound
-
-pub parts-of-free-records-are-zero : (st : State) → JustReady st → (xs : List Call) → FreePartsAreZero (ends st xs)
-parts-of-free-records-are-zero st j xs = twice.runs-on st j xs .calm .zero
-
-pub never-refusal-1 : (st : State) → JustReady st → (xs : List Call) (c : Call) → badCall (ends st xs .table) (length (ends st xs .store)) (length (c .reply)) ≡ false
-never-refusal-1 = twice.never-refusal-1
-
--- ---- Demands 2 and 3 as properties of any manager: ours has them. proofs/Useless shows eight that don't
-
-pub demand-2-of-ours : (st : State) (j : JustReady st) → Demand2Of (ours st j)
-demand-2-of-ours = managers.ours-demand-2
-
-pub demand-3-of-ours : (st : State) (j : JustReady st) → Demand3Of (ours st j)
-demand-3-of-ours = managers.ours-demand-3
-
--- ---- The thirteen starred numbers, one statement over one list
-
+-- The starred numbers, one statement over one list: thirteen are starred, and the last, 4,096 and 4,097, has two
+-- cases
 pub the-starred-numbers : Starred
 the-starred-numbers = stars.the-starred-numbers
+
+-- One outcome for each input, of every public function: proofs/OneOutcome

@@ -1,217 +1,242 @@
--- Our manager has demands 2 and 3 as any manager may have them.
+-- Our manager has demand 2: from every Start on, every call of every run is told what it should be. What is kept along a run is `Seen`:
+-- the state is calm, ready as the events make it, and each channel stands where its joining does.
 -- Assumes nothing.
-use Prim.Native.Nat.{ℕ, _+_, _-_, _≤_}
-use mathlib.Core.Path.{_≡_, refl, sym, ap, _∙_}
-use mathlib.Core.Bool.{Bool, true, false, cond}
-use mathlib.Core.List.{List, [], _∷_, _++_, map}
+use Prim.Native.Nat.{ℕ, _≤_, min}
 use native.Mathlib.Omega.{arith}
-use borrow.Author.Tests.{eqb-true}
-use lib.Dec.{ltb, eqb}
-use lib.ListN.{length, take, length-append, length-take}
-use Rattle.paper.specs.Sizes.{PART, MESSAGE-MAX}
+use mathlib.Core.Path.{_≡_, refl, sym, ap, _∙_, subst}
+use mathlib.Core.Bool.{Bool, true, false, cond}
+use mathlib.Core.Logic.{_≢_}
+use mathlib.Core.List.{List, [], _∷_, map}
+use borrow.Author.Tests.{eqb-true, eqb-false, ne-eqb}
+use lib.Dec.{eqb}
+use lib.ListN.{length, take}
+use Rattle.paper.specs.Sizes.{PARTS, STORE, REPLY-MIN}
 use Rattle.paper.specs.declared.Refusal.{Refusal}
-use Rattle.paper.specs.declared.Refusal.the-variants.{BadList, WrongTime, AlreadyOpen, StillJoining, OverLimit, PastLength, IsSpoiled}
-use Rattle.laying.specs.Laying.{closeBytes}
-use Rattle.channel.specs.declared.Stage.{Stage}
-use Rattle.channel.specs.declared.Stage.the-variants.{Idle, Joining, Spoiled}
-use Rattle.channel.specs.declared.Record.{Record}
-use Rattle.channel.specs.declared.Offer.{Offer}
-use Rattle.channel.specs.declared.Offer.the-variants.{First, More}
-use Rattle.channel.specs.declared.Took.the-variants.{Bars, Spoils, Holds, Finishes}
-use Rattle.channel.specs.declared.Concern.the-variants.{NoChannel, Channel}
-use Rattle.channel.specs.declared.Answer.the-variants.{Message, Closed, Refused}
-use Rattle.channel.specs.Stages.{added, begun, took}
-use Rattle.channel.specs.Channel.{Act, BadCreate, Create, Bring, Closing, LocalClose, View, Shut, Open, Room, Did, did, opening, answerTo, landed, act}
-use Rattle.table.specs.Sound.{goodStage}
-use Rattle.table.proofs.Soundness.{joining-bounds}
-use Rattle.client.specs.State.{State, view}
+use Rattle.paper.specs.declared.Refusal.the-variants.{WrongTime}
+use Rattle.lists.specs.Bytes.{laid, zeros}
+use Rattle.lists.specs.Places.{place}
+use Rattle.lists.proofs.Laid.{front}
+use Rattle.laying.proofs.Lengths.{length-caps-response}
+use Rattle.channel.specs.declared.Concern.the-variants.{NoChannel}
+use Rattle.channel.specs.declared.Answer.the-variants.{Ready, Refused}
+use Rattle.channel.specs.Channel.{Act, View, Shut, Did, act}
+use Rattle.table.specs.Table.{emptyTable, numberPlace, recordAt, holds}
+use Rattle.client.specs.State.{State, stateOf, viewAt, view}
 use Rattle.client.specs.Events.{Event, Unreadable, Capabilities, Of}
-use Rattle.demands.specs.Trace.{Never}
-use Rattle.demands.specs.Runs.{Call, after, toldTo, firstOf, ownEvents, meetsFull}
-use Rattle.demands.specs.Joining.{Join, Off, Quiet, Gathering, Dead, Brings, Nothing, StillToCome, Whole, still, gathered, startsWith, goesOn, joins, joinAll, brought}
-use Rattle.demands.specs.Orders.{JustReady, NeverFull, Demand3}
-use Rattle.demands.specs.Managers.{tellsTo, ours, paperBegin, paperNext, Roomy, Said, says, whyNot, answered, stepSays, saysAll, said, once, handed, Joins, Demand2Of, Demand3Of}
-use Rattle.demands.proofs.Traces.{plain, aloneOuts}
-use Rattle.demands.proofs.Machine.{Running, roomFlag, toldBy, chanNext, chanOut, call-state, running-call}
-use Rattle.demands.proofs.Joined.{message-part, joinAt, joinOf, SoundView, AllFine, act-joins, run-joins}
-use Rattle.demands.proofs.Orders.{ready-state, fresh, fine-events, told-alone, demand-3}
+use Rattle.client.specs.Client.{Stepped, refused, readied, stepped, Whole, wholeOf}
+use Rattle.client.proofs.Steps.{too-early, too-late, made-ready, view-shut}
+use Rattle.steps.specs.States.{FineAct, FineEvent, ruled, Sane, Calm}
+use Rattle.steps.proofs.Channels.{step-own, step-other, step-steady}
+use Rattle.steps.proofs.Calm.{calm-start, calm-step, sane-steady}
+use Rattle.demands.specs.Trace.{seen}
+use Rattle.demands.specs.Runs.{Call, Told, gives, after, told, handedUp, eventIn, eventsOf, eventMeetsFull, startedOn, Running}
+use Rattle.demands.specs.Joining.{Join, Off, joinsIf}
+use Rattle.demands.specs.Telling.{toldIf, tellsNone}
+use Rattle.demands.specs.Managers.{Manager, ours, Reached, at-first, called, restarted, JustStarted, first-start, new-start,
+    everyTold, put, Sight, atStart, sightNext, readyTold, sightTold, paperStart, shouldTell, Demand2Of}
+use Rattle.demands.proofs.Machine.{steady, roomFlag, toldBy, same-told, call-step, call-state, fine-call, own-told, ruled-flag}
+use Rattle.demands.proofs.Joined.{joinOf, SoundView, FineBlock, call-blocks}
+use Rattle.demands.proofs.Telling.{act-both, act-told}
+use Rattle.demands.proofs.Orders.{started-is, calm-started, empty-unready}
 
--- ---- the paper's steps on the events are the calls' own
+-- ---- an event that hands up nothing
 
-roomy-never : (l : ℕ) (st : State) (xs : List Call) → Running l st → Never paperNext meetsFull st xs → NeverFull st xs
-unfolding paperNext
-roomy-never l st [] g f = tt
-roomy-never l st (c ∷ xs) g f =
-    let same = call-state st c (g .calm .sane) in
-    (f .0, roomy-never l (after st c) xs (running-call l st c g) (rw same (f .1)))
+stray-told :
+    (st : State) (c : Call) → Sane st → (s : Stepped) → stepped st (eventIn (c .asked)) ≡ s → length (s .reply) ≤ REPLY-MIN
+    → ((t : State) → handedUp t (s .answer) ≡ []) → told st c ≡ record { answer = s .answer; reply = s .reply; message = [] }
+unfolding told wholeOf
+stray-told st c h s e fits none =
+    let whole : gives st (c .asked) (c .reply) ≡ wholeOf (c .reply) s = call-step st c h ∙ ap (wholeOf (c .reply)) e in
+    let answer : gives st (c .asked) (c .reply) .result .answer ≡ s .answer = ap (λ (w : Whole). w .result .answer) whole in
+    let room : length (s .reply) ≤ length (c .reply) = omega (arith, c .enough) in
+    same-told answer (ap (λ (w : Whole). take (w .result .sent) (w .reply)) whole ∙ front (c .reply) (s .reply) room) (ap (handedUp (after st c)) answer ∙ none (after st c))
 
--- ---- one channel's rules say what the steps say, and hand up each message once
+refused-told :
+    (st : State) (c : Call) → Sane st → (why : Refusal) → stepped st (eventIn (c .asked)) ≡ refused st why
+    → told st c ≡ tellsNone (Refused why NoChannel)
+unfolding handedUp REPLY-MIN
+refused-told st c h why e = stray-told st c h (refused st why) e (omega arith) (λ t. refl)
 
-pub record Speaks (d : Did) (s : Said) (b : Brings) : Type 0 where
-  pub answers : d .answer ≡ s .answer
-  pub replies : d .reply ≡ s .reply
-  pub hands : handed (toldBy d) ≡ once b
+ready-told :
+    (st : State) (c : Call) → Sane st → (version : ℕ) → stepped st (eventIn (c .asked)) ≡ readied st version
+    → told st c ≡ readyTold version
+unfolding handedUp readied REPLY-MIN
+ready-told st c h version e = stray-told st c h (readied st version) e (omega (arith, length-caps-response 2)) (λ t. refl)
 
-abbrev pub BySteps : Did → ℕ → Join → Act → Type 0
-BySteps d n j a = Speaks d (stepSays n j a) (joins j a .brings)
+-- ---- a state of ours, as the events show it
 
-step-bring : (n : ℕ) (j : Join) (offer : Offer) (block : List ℕ) → stepSays n j (Bring offer block) ≡ says (answered n (whyNot j offer) (joins j (Bring offer block) .brings)) []
-unfolding stepSays
-step-bring n Off offer block = refl
-step-bring n Quiet offer block = refl
-step-bring n (Gathering wanted got) offer block = refl
-step-bring n Dead offer block = refl
+pub record Seen (st : State) (s : Sight) : Type 0 where
+  pub calm : Calm st
+  pub ready : st .table .ready ≡ s .ready
+  pub stands : (n : ℕ) → joinOf (view n st) ≡ s .stand n
+  pub sound : (n : ℕ) → SoundView (view n st)
 
-module _ (n : ℕ) (r : Record) (part : List ℕ) (whole : length part ≡ PART) where
-  -- what a block brings
-  abbrev Lands : Refusal → Did → Brings → Type 0
-  Lands why d b = Speaks d (says (answered n why b) []) b
+no-number-at : (n : ℕ) → PARTS ≡ numberPlace n emptyTable
+unfolding numberPlace emptyTable PARTS place holds
+no-number-at n = refl
 
-  spoils-says : (block : List ℕ) (why : Refusal) → Lands why (landed n r part block (Spoils why)) Nothing
-  unfolding landed answerTo answered once
-  spoils-says block why = record { answers = refl; replies = refl; hands = refl }
+empty-shut : (n : ℕ) (store : List ℕ) → view n (stateOf emptyTable store) ≡ Shut
+empty-shut n store = view-shut n (stateOf emptyTable store) PARTS (no-number-at n) (omega arith)
 
-  bars-says : (block : List ℕ) (why : Refusal) → Lands why (landed n r part block (Bars why)) Nothing
-  unfolding landed answerTo answered once
-  bars-says block why = record { answers = refl; replies = refl; hands = refl }
+pub seen-start : Seen paperStart atStart
+unfolding paperStart
+seen-start = record { calm = calm-start; ready = empty-unready; stands = λ n. ap joinOf (empty-shut n (zeros STORE)); sound = λ n. rw (empty-shut n (zeros STORE)) tt }
 
-  finishes-says : (block got : List ℕ) (why : Refusal) (held wanted : ℕ) → wanted ≡ length got → Lands why (landed n r part block (Finishes held wanted)) (Whole got)
-  unfolding landed answerTo answered once firstOf
-  finishes-says block got why held wanted e = record { answers = ap (Message n) e; replies = refl; hands = refl }
+-- a Capabilities request moves no channel
+ready-view : (n : ℕ) (st : State) (version : ℕ) → view n (readied st version .state) ≡ view n st
+unfolding readied view viewAt numberPlace recordAt
+ready-view n st version = refl
 
-  holds-says : (block : List ℕ) (why : Refusal) (wanted at held : ℕ) → Lands why (landed n r part block (Holds wanted at held)) (StillToCome (wanted - held))
-  unfolding landed answerTo answered once
-  holds-says block why wanted at held = record { answers = refl; replies = refl; hands = refl }
+made-is : (st : State) (version : ℕ) → readied st version .state .table .ready ≡ true
+unfolding readied
+made-is st version = refl
 
-  add-says : (wanted held : ℕ) (block : List ℕ) → held ≤ PART → Lands PastLength (landed n r part block (added wanted held (length block))) (gathered wanted (take held part ++ block) .brings)
-  unfolding added gathered
-  add-says wanted held block inside = rw size (go (ltb wanted (held + length block)) (eqb (held + length block) wanted) refl)
+stray : (st : State) (why : Refusal) → stepped st (Unreadable why) ≡ refused st why
+unfolding stepped
+stray st why = refl
+
+-- what is seen of a channel's event, in time and too early
+pub sight-in :
+    (full : Bool) (s : Sight) (n : ℕ) (a : Act) → s .ready ≡ true
+    → sightNext full s (Of n a) ≡ record { ready = true; stand = put n (joinsIf full (s .stand n) a .join) (s .stand) }
+unfolding sightNext
+sight-in full s n a r = rw r
+
+pub sight-early : (full : Bool) (s : Sight) (n : ℕ) (a : Act) → s .ready ≡ false → sightNext full s (Of n a) ≡ s
+unfolding sightNext
+sight-early full s n a r = rw r
+
+module _ (st : State) (s : Sight) (g : Seen st s) where
+  running : st .table .ready ≡ true → Running (st .table .level) st
+  running r = record { calm = g .calm; ready = r; level = refl }
+
+  -- an event of a channel, in time
+  module _ (n : ℕ) (a : Act) (z : FineAct a) (b : FineBlock (Of n a)) (r : st .table .ready ≡ true) where
+    full : Bool
+    full = eventMeetsFull st (Of n a)
+
+    own-view : view n (stepped st (Of n a) .state) ≡ act (st .table .level) n (roomFlag full) (view n st) a .view
+    unfolding full
+    own-view = step-own st (sane-steady st (g .calm .sane) r) n a z ∙ ap (λ (d : Did). d .view) (ruled-flag (st .table .level) st (running r) n a)
+
+    own-stands : joinOf (view n (stepped st (Of n a) .state)) ≡ joinsIf full (s .stand n) a .join
+    own-stands = ap joinOf own-view ∙ act-both full (st .table .level) n (view n st) a (g .sound n) b .agrees .stands ∙ ap (λ (j : Join). joinsIf full j a .join) (g .stands n)
+
+    own-sound : SoundView (view n (stepped st (Of n a) .state))
+    own-sound = rw own-view (act-both full (st .table .level) n (view n st) a (g .sound n) b .agrees .sound)
+
+    other-view : (m : ℕ) → m ≢ n → view m (stepped st (Of n a) .state) ≡ view m st
+    other-view m d = step-other m st (sane-steady st (g .calm .sane) r) (Of n a) z (ne-eqb n m (λ e. d (sym e)))
+
+    all-stand : (m : ℕ) → joinOf (view m (stepped st (Of n a) .state)) ≡ put n (joinsIf full (s .stand n) a .join) (s .stand) m
+    all-stand m = go (eqb m n) refl
+      where
+        go :
+            (t : Bool) → eqb m n ≡ t
+            → joinOf (view m (stepped st (Of n a) .state)) ≡ cond t (joinsIf full (s .stand n) a .join) (s .stand m)
+        go true e = rw (eqb-true m n e) own-stands
+        go false e = ap joinOf (other-view m (eqb-false m n e)) ∙ g .stands m
+
+    all-sound : (m : ℕ) → SoundView (view m (stepped st (Of n a) .state))
+    all-sound m = go (eqb m n) refl
+      where
+        go : (t : Bool) → eqb m n ≡ t → SoundView (view m (stepped st (Of n a) .state))
+        go true e = rw (eqb-true m n e) own-sound
+        go false e = rw (other-view m (eqb-false m n e)) (g .sound m)
+
+  -- a refusal moves nothing
+  stays : (e : Event) (why : Refusal) → stepped st e ≡ refused st why → Seen (stepped st e .state) s
+  stays e why h = rw h g
+
+  seen-caps :
+      (version : ℕ) → FineEvent (Capabilities version)
+      → Seen (stepped st (Capabilities version) .state) (record { ready = true; stand = s .stand })
+  seen-caps version z = go (st .table .ready) refl
     where
-      got : List ℕ
-      got = take held part ++ block
+      go : (t : Bool) → st .table .ready ≡ t → Seen (stepped st (Capabilities version) .state) (record { ready = true; stand = s .stand })
+      go true r = rw (too-late st version r) (record { calm = g .calm; ready = r; stands = g .stands; sound = g .sound })
+      go false r = made-seen (calm-step st (g .calm) (Capabilities version) z) (made-ready st version r)
+        where
+          made-seen :
+              Calm (stepped st (Capabilities version) .state) → stepped st (Capabilities version) ≡ readied st version
+              → Seen (stepped st (Capabilities version) .state) (record { ready = true; stand = s .stand })
+          made-seen k h = record {
+            calm = k;
+            ready = ap (λ (x : Stepped). x .state .table .ready) h ∙ made-is st version;
+            stands = λ n. ap (λ (x : Stepped). joinOf (view n (x .state))) h ∙ ap joinOf (ready-view n st version) ∙ g .stands n;
+            sound = λ n. subst SoundView (sym (ap (λ (x : Stepped). view n (x .state)) h ∙ ready-view n st version)) (g .sound n);
+          }
 
-      size : length (take held part ++ block) ≡ held + length block
-      size = simp (length-append, length-take) (omega arith)
+  seen-of :
+      (n : ℕ) (a : Act) → FineAct a → FineBlock (Of n a) → (t : Bool) → st .table .ready ≡ t
+      → Seen (stepped st (Of n a) .state) (sightNext (eventMeetsFull st (Of n a)) s (Of n a))
+  unfolding full
+  seen-of n a z b true r =
+      rw (sight-in (eventMeetsFull st (Of n a)) s n a (sym (g .ready) ∙ r)) (record {
+        calm = calm-step st (g .calm) (Of n a) z;
+        ready = step-steady st (sane-steady st (g .calm .sane) r) (Of n a) z .ready;
+        stands = all-stand n a z b r;
+        sound = all-sound n a z b r;
+      })
+  seen-of n a z b false r = rw (sight-early (eventMeetsFull st (Of n a)) s n a (sym (g .ready) ∙ r)) (stays (Of n a) WrongTime (too-early st n a r))
 
-      go : (t u : Bool) → eqb (held + length block) wanted ≡ u → Lands PastLength (landed n r part block (cond t (Spoils PastLength) (cond u (Finishes held wanted) (Holds wanted held (held + length block))))) (cond t (still Dead) (cond u (record { join = Quiet; brings = Whole got }) (record { join = Gathering wanted got; brings = StillToCome (wanted - (held + length block)) })) .brings)
-      go true u e = spoils-says block PastLength
-      go false true e = finishes-says block got PastLength held wanted (sym (eqb-true (held + length block) wanted e) ∙ sym size)
-      go false false e = holds-says block PastLength wanted held (held + length block)
+  seen-step : (e : Event) → FineEvent e → FineBlock e → Seen (stepped st e .state) (sightNext (eventMeetsFull st e) s e)
+  unfolding sightNext
+  seen-step (Unreadable why) z b = stays (Unreadable why) why (stray st why)
+  seen-step (Capabilities version) z b = seen-caps version z
+  seen-step (Of n a) z b = seen-of n a z b (st .table .ready) refl
 
-  first-says : (len : ℕ) (block : List ℕ) → Lands (whyNot Quiet (First len)) (landed n r part block (begun len (length block))) (startsWith (First len) block .brings)
-  unfolding begun startsWith whyNot
-  first-says len block = go (ltb MESSAGE-MAX len)
-    where
-      go : (t : Bool) → Lands (cond t OverLimit PastLength) (landed n r part block (cond t (Spoils OverLimit) (added len 0 (length block)))) (cond t (still Dead) (gathered len block) .brings)
-      go true = spoils-says block OverLimit
-      go false = add-says len 0 block (omega arith)
+  -- what our call tells
+  caps-told :
+      (c : Call) (version : ℕ) → eventIn (c .asked) ≡ Capabilities version → (t : Bool) → st .table .ready ≡ t
+      → told st c ≡ cond t (tellsNone (Refused WrongTime NoChannel)) (readyTold version)
+  caps-told c version e true r = refused-told st c (g .calm .sane) WrongTime (ap (stepped st) e ∙ too-late st version r)
+  caps-told c version e false r = ready-told st c (g .calm .sane) version (ap (stepped st) e ∙ made-ready st version r)
 
-  bring-says : (s : Stage) → goodStage s ≡ true → (offer : Offer) (block : List ℕ) → Lands (whyNot (joinAt s part) offer) (landed n r part block (took s offer (length block))) (joins (joinAt s part) (Bring offer block) .brings)
-  unfolding took joins goesOn whyNot startsWith
-  bring-says Idle g (First len) block = first-says len block
-  bring-says Idle g More block = finishes-says block block PastLength 0 (length block) refl
-  bring-says (Joining wanted held) g (First len) block = spoils-says block StillJoining
-  bring-says (Joining wanted held) g More block = let b = joining-bounds (Joining wanted held) wanted held refl g in add-says wanted held block (omega (arith, message-part))
-  bring-says Spoiled g offer block = bars-says block IsSpoiled
+  of-told :
+      (c : Call) (n : ℕ) (a : Act) → FineAct a → FineBlock (Of n a) → eventIn (c .asked) ≡ Of n a → (t : Bool) → st .table .ready ≡ t
+      → told st c ≡ cond t (toldIf (eventMeetsFull st (Of n a)) n (s .stand n) a) (tellsNone (Refused WrongTime NoChannel))
+  of-told c n a z b e true r =
+      own-told st c (sane-steady st (g .calm .sane) r) n a z e ∙ ap toldBy (ruled-flag (st .table .level) st (running r) n a)
+      ∙ act-told (eventMeetsFull st (Of n a)) (st .table .level) n (view n st) a (g .sound n) b
+      ∙ ap (λ (j : Join). toldIf (eventMeetsFull st (Of n a)) n j a) (g .stands n)
+  of-told c n a z b e false r = refused-told st c (g .calm .sane) WrongTime (ap (stepped st) e ∙ too-early st n a r)
 
-  -- an open channel
-  open-bring : goodStage (r .stage) ≡ true → (offer : Offer) (block : List ℕ) → BySteps (landed n r part block (took (r .stage) offer (length block))) n (joinAt (r .stage) part) (Bring offer block)
-  open-bring g offer block = rw (step-bring n (joinAt (r .stage) part) offer block) (bring-says (r .stage) g offer block)
+  call-told :
+      (c : Call) (e : Event) → FineEvent e → FineBlock e → eventIn (c .asked) ≡ e → told st c ≡ sightTold (eventMeetsFull st e) s e
+  unfolding sightTold
+  call-told c (Unreadable why) z b h = refused-told st c (g .calm .sane) why (ap (stepped st) h ∙ stray st why)
+  call-told c (Capabilities version) z b h = caps-told c version h (s .ready) (g .ready)
+  call-told c (Of n a) z b h = of-told c n a z b h (s .ready) (g .ready)
 
-  open-bad : (s : Stage) → BySteps (did (Open r part) (Refused BadList NoChannel) []) n (joinAt s part) BadCreate
-  unfolding joins stepSays once
-  open-bad Idle = record { answers = refl; replies = refl; hands = refl }
-  open-bad (Joining wanted held) = record { answers = refl; replies = refl; hands = refl }
-  open-bad Spoiled = record { answers = refl; replies = refl; hands = refl }
+pub our-run : (st : State) (s : Sight) → Seen st s → (xs : List Call) → seen after (λ c. true) told st xs ≡ shouldTell st s (eventsOf xs)
+unfolding shouldTell
+our-run st s g [] = refl
+our-run st s g (c ∷ xs) =
+    let e = eventIn (c .asked) in
+    let h = call-told st s g c e (fine-call (c .asked)) (call-blocks (c .asked)) refl in
+    let rest = our-run (stepped st e .state) (sightNext (eventMeetsFull st e) s e) (seen-step st s g e (fine-call (c .asked)) (call-blocks (c .asked))) xs in
+    rw (h, call-state st c (g .calm .sane), rest)
 
-  open-again : (s : Stage) → (listed : Bool) (pri : ℕ) → BySteps (did (Open r part) (Refused AlreadyOpen (Channel n)) []) n (joinAt s part) (Create listed pri)
-  unfolding joins stepSays once
-  open-again Idle listed pri = record { answers = refl; replies = refl; hands = refl }
-  open-again (Joining wanted held) listed pri = record { answers = refl; replies = refl; hands = refl }
-  open-again Spoiled listed pri = record { answers = refl; replies = refl; hands = refl }
+-- ---- from every Start on
 
-  open-closing : (s : Stage) → BySteps (did Shut (Closed n) (closeBytes n)) n (joinAt s part) Closing
-  unfolding joins stepSays once
-  open-closing Idle = record { answers = refl; replies = refl; hands = refl }
-  open-closing (Joining wanted held) = record { answers = refl; replies = refl; hands = refl }
-  open-closing Spoiled = record { answers = refl; replies = refl; hands = refl }
+-- calls and Starts keep the store's size
+reached-calm : (store : List ℕ) → length store ≡ STORE → (st : State) → Reached (ours store) st → Calm st
+unfolding ours
+reached-calm store size st at-first = calm-started store size
+reached-calm store size st (called {s = s} c r) =
+    let g = reached-calm store size s r in
+    rw (call-state s c (g .sane)) (calm-step s g (eventIn (c .asked)) (fine-call (c .asked)))
+reached-calm store size st (restarted {s = s} r) = calm-started (s .store) (reached-calm store size s r .sane .bytes)
 
-  open-local : (s : Stage) → BySteps (did Shut (Closed n) (closeBytes n)) n (joinAt s part) LocalClose
-  unfolding joins stepSays once
-  open-local Idle = record { answers = refl; replies = refl; hands = refl }
-  open-local (Joining wanted held) = record { answers = refl; replies = refl; hands = refl }
-  open-local Spoiled = record { answers = refl; replies = refl; hands = refl }
+started-run :
+    (store : List ℕ) → length store ≡ STORE → (xs : List Call)
+    → seen after (λ c. true) told (startedOn store) xs ≡ shouldTell paperStart atStart (eventsOf xs)
+unfolding paperStart
+started-run store size xs = rw (started-is store size) (our-run paperStart atStart seen-start xs)
 
-  open-says : (l : ℕ) (room : Room) → goodStage (r .stage) ≡ true → (a : Act) → BySteps (act l n room (Open r part) a) n (joinAt (r .stage) part) a
-  unfolding act
-  open-says l room g BadCreate = open-bad (r .stage)
-  open-says l room g (Create listed pri) = open-again (r .stage) listed pri
-  open-says l room g (Bring offer block) = open-bring g offer block
-  open-says l room g Closing = open-closing (r .stage)
-  open-says l room g LocalClose = open-local (r .stage)
-
--- a channel that is not open
-shut-says : (l n : ℕ) (a : Act) → BySteps (act l n (roomFlag false) Shut a) n Off a
-unfolding act opening joins stepSays once answered whyNot
-shut-says l n BadCreate = record { answers = refl; replies = refl; hands = refl }
-shut-says l n (Create true pri) = record { answers = refl; replies = refl; hands = refl }
-shut-says l n (Create false pri) = record { answers = refl; replies = refl; hands = refl }
-shut-says l n (Bring offer block) = record { answers = refl; replies = refl; hands = refl }
-shut-says l n Closing = record { answers = refl; replies = refl; hands = refl }
-shut-says l n LocalClose = record { answers = refl; replies = refl; hands = refl }
-
-act-says : (l n : ℕ) (v : View) → SoundView v → (a : Act) → BySteps (act l n (roomFlag false) v a) n (joinOf v) a
-act-says l n Shut s a = shut-says l n a
-act-says l n (Open r part) s a = open-says n r part (s .0) l (roomFlag false) (s .1) a
-
--- ---- a channel's own events, alone
-
-run-says : (l : ℕ) (v : View) (es : List Event) → AllFine es → SoundView v → map said (aloneOuts (chanNext l) (chanOut l) v (map plain es)) ≡ saysAll (joinOf v) es
-unfolding saysAll
-run-says l v [] f s = refl
-run-says l v (Unreadable why ∷ es) f s = ap (λ (r : List Said). says (Refused why NoChannel) [] ∷ r) (run-says l v es (f .1) s)
-run-says l v (Capabilities version ∷ es) f s = ap (λ (r : List Said). says (Refused WrongTime NoChannel) [] ∷ r) (run-says l v es (f .1) s)
-run-says l v (Of n a ∷ es) f s =
-    let g = act-joins l n n v a s (f .0) in
-    let h = act-says l n v s a in
-    let rest = run-says l (act l n (roomFlag false) v a .view) es (f .1) (g .sound) in
-    rw (rest, g .stands, h .answers, h .replies)
-
-run-hands : (l : ℕ) (v : View) (es : List Event) → AllFine es → SoundView v → map handed (aloneOuts (chanNext l) (chanOut l) v (map plain es)) ≡ map once (joinAll (joinOf v) es)
-unfolding joinAll once
-run-hands l v [] f s = refl
-run-hands l v (Unreadable why ∷ es) f s = ap (λ (r : List ℕ). 0 ∷ r) (run-hands l v es (f .1) s)
-run-hands l v (Capabilities version ∷ es) f s = ap (λ (r : List ℕ). 0 ∷ r) (run-hands l v es (f .1) s)
-run-hands l v (Of n a ∷ es) f s =
-    let g = act-joins l n n v a s (f .0) in
-    let h = act-says l n v s a in
-    let rest = run-hands l (act l n (roomFlag false) v a .view) es (f .1) (g .sound) in
-    rw (rest, g .stands, h .hands)
-
--- ---- ours
-
-module _ (st : State) (j : JustReady st) where
-  never : (xs : List Call) → Roomy (ours st j .version) xs → NeverFull st xs
-  unfolding ours paperBegin
-  never xs f = let b = fresh st j in roomy-never (b .level) st xs (b .running) (rw (ready-state st j) f)
-
-  our-joins : (xs : List Call) → Roomy (ours st j .version) xs → (n : ℕ) → Joins (ours st j) xs n
-  unfolding tellsTo ours toldTo
-  our-joins xs f n =
-      let b = fresh st j in
-      let alone = told-alone (b .level) st (b .running) n (b .shut n) xs (never xs f) in
-      record {
-        joined = ap (map brought) alone ∙ run-joins (b .level) Shut (ownEvents n xs) (fine-events n xs) tt;
-        each-once = ap (map handed) alone ∙ run-hands (b .level) Shut (ownEvents n xs) (fine-events n xs) tt;
-      }
-
-  pub ours-demand-2 : Demand2Of (ours st j)
-  unfolding Demand2Of tellsTo ours toldTo
-  ours-demand-2 xs f n =
-      let b = fresh st j in
-      let alone = told-alone (b .level) st (b .running) n (b .shut n) xs (never xs f) in
-      record { steps = ap (map said) alone ∙ run-says (b .level) Shut (ownEvents n xs) (fine-events n xs) tt; brings = our-joins xs f n }
-
-  pub ours-demand-3 : Demand3Of (ours st j)
-  unfolding Demand3Of Demand3 tellsTo ours toldTo
-  ours-demand-3 xs ys o f h n = record { same-told = demand-3 st j xs ys o (never xs f) (never ys h) n .same-told; brings = our-joins xs f n }
+-- on any store of its size
+pub ours-demand-2 : (store : List ℕ) → length store ≡ STORE → Demand2Of (ours store)
+unfolding Demand2Of ours everyTold
+ours-demand-2 store size st first-start xs = started-run store size xs
+ours-demand-2 store size st (new-start {s = s} r) xs = started-run (s .store) (reached-calm store size s r .sane .bytes) xs

@@ -1,4 +1,5 @@
--- Demand 3 and its general form, proved.
+-- Demand 3 and its general form, proved: what a channel is told and where it ends are functions of its own events and of whether they
+-- met a full table. From a connection just made ready every state of a run is a state of a run again.
 -- Assumes nothing.
 use mathlib.Core.Path.{_≡_, refl, sym, ap, _∙_, subst}
 use mathlib.Core.Bool.{Bool, true, false}
@@ -9,38 +10,43 @@ use borrow.Author.Tests.{eq-eqb}
 use lib.ListN.{length}
 use Rattle.paper.specs.Sizes.{PARTS, STORE}
 use Rattle.lists.specs.Bytes.{zeros}
+use Rattle.lists.specs.Places.{place}
 use Rattle.reading.specs.Reading.{readPdu}
 use Rattle.reading.specs.declared.Charges.{Charges}
 use Rattle.reading.specs.declared.Pdu.the-variants.{CapsRequest}
 use Rattle.channel.specs.Channel.{View, Shut}
-use Rattle.lists.specs.Places.{place}
 use Rattle.table.specs.Table.{emptyTable, holds, numberPlace}
 use Rattle.client.specs.State.{State, stateOf, view}
 use Rattle.client.specs.Events.{Event, Capabilities, eventOf, eventFor, actFor, carriedBy}
-use Rattle.client.specs.Client.{Stepped, started, storeStarted, readied, stepped}
+use Rattle.client.specs.Client.{Stepped, started, storeStarted, readied, stepped, badCall}
 use Rattle.client.proofs.Steps.{made-ready, view-shut}
-use Rattle.steps.proofs.Channels.{FineEvent}
-use Rattle.steps.proofs.Calm.{Calm, calm-start, calm-step}
+use Rattle.steps.specs.States.{FineEvent, Calm}
+use Rattle.steps.proofs.Calm.{calm-start, calm-step}
 use Rattle.demands.specs.Trace.{consIf, keep, seen}
-use Rattle.demands.specs.Runs.{Pdu, Call, after, toldTo, ends, eventIn, isEventOf, ownEvents, meetsFull}
-use Rattle.demands.specs.Joining.{Off, brought, joinAll}
-use Rattle.demands.specs.Orders.{begun, JustReady, NeverFull, Demand3, fullFlags, SameForOne}
-use Rattle.demands.proofs.Traces.{withFlag, aloneOuts, plain, beside, trace-outs, same-outs, same-final, never-flagged, inputs-beside}
-use Rattle.demands.proofs.Machine.{Running, readCall, chanNext, chanOut, framed, call-state, fine-call}
-use Rattle.demands.proofs.Joined.{AllFine, call-blocks, run-joins}
+use Rattle.demands.specs.Runs.{receives, Call, after, toldTo, ends, eventIn, isEventOf, ownEvents, meetsFull, fullFlags, startedOn,
+    JustReady, Running}
+use Rattle.demands.specs.Joining.{Off, brought, joinWith, handed, once}
+use Rattle.demands.specs.Telling.{toldWith}
+use Rattle.demands.specs.Orders.{TwoOrders, NeverFull, SameEitherWay, SameButPlaces, SameForOne}
+use Rattle.demands.proofs.Traces.{Input, withFlag, eventsIn, flagsIn, trace-inv, trace-outs, same-outs, same-final, inputs-same,
+    inputs-events, inputs-flags, never-seen}
+use Rattle.demands.proofs.Machine.{readCall, chanNext, chanOut, framed, not-bad, call-state, fine-call}
+use Rattle.demands.proofs.Joined.{AllFine, joinOf, SoundView, call-blocks}
+use Rattle.demands.proofs.Telling.{run-told, with-brings, with-once, unflagged}
 
 -- ---- a connection just made ready
 
-begun-is : (store : List ℕ) → length store ≡ STORE → begun store ≡ stateOf emptyTable (zeros STORE)
-unfolding begun started storeStarted
-begun-is store h = rw (eq-eqb (length store) STORE h)
+pub started-is : (store : List ℕ) → length store ≡ STORE → startedOn store ≡ stateOf emptyTable (zeros STORE)
+unfolding startedOn started storeStarted
+started-is store h = rw (eq-eqb (length store) STORE h)
 
 -- the empty table holds no number
 no-number : (n level : ℕ) → PARTS ≡ numberPlace n (record { ready = true; level = level; records = emptyTable .records })
 unfolding numberPlace emptyTable PARTS place holds
 no-number n level = refl
 
-empty-shut : (n level : ℕ) (store : List ℕ) → view n (stateOf (record { ready = true; level = level; records = emptyTable .records }) store) ≡ Shut
+empty-shut :
+    (n level : ℕ) (store : List ℕ) → view n (stateOf (record { ready = true; level = level; records = emptyTable .records }) store) ≡ Shut
 empty-shut n level store = view-shut n (stateOf (record { ready = true; level = level; records = emptyTable .records }) store) PARTS (no-number n level) (omega arith)
 
 -- what the Capabilities request makes of it
@@ -49,15 +55,19 @@ pub record Fresh (st : State) : Type 0 where
   pub running : Running level st
   pub shut : (n : ℕ) → view n st ≡ Shut
 
-caps-event : (list pdu : List ℕ) (version : ℕ) (charges : Charges) → readPdu true pdu ≡ CapsRequest version charges → eventOf list pdu (readPdu true pdu) ≡ Capabilities version
+caps-event :
+    (list pdu : List ℕ) (version : ℕ) (charges : Charges) → readPdu true pdu ≡ CapsRequest version charges
+    → eventOf list pdu (readPdu true pdu) ≡ Capabilities version
 unfolding eventOf eventFor actFor carriedBy
 caps-event list pdu version charges e = rw e
 
-empty-unready : emptyTable .ready ≡ false
+pub empty-unready : emptyTable .ready ≡ false
 unfolding emptyTable
 empty-unready = refl
 
-read-caps : (list pdu : List ℕ) (version : ℕ) (charges : Charges) → readPdu true pdu ≡ CapsRequest version charges → eventIn (Pdu list pdu) ≡ Capabilities version
+read-caps :
+    (list pdu : List ℕ) (version : ℕ) (charges : Charges) → readPdu true pdu ≡ CapsRequest version charges
+    → eventIn (receives list pdu) ≡ Capabilities version
 unfolding eventIn
 read-caps list pdu version charges e = caps-event list pdu version charges e
 
@@ -67,7 +77,7 @@ ready-state st j =
     let c = j .call in
     let empty = stateOf emptyTable (zeros STORE) in
     let event : eventIn (c .asked) ≡ Capabilities (j .version) = ap eventIn (j .asks) ∙ read-caps (j .list) (j .pdu) (j .version) (j .charges) (j .accepted) in
-    j .then ∙ ap (λ (s : State). after s c) (begun-is (j .store) (j .size))
+    j .then ∙ ap (λ (s : State). after s c) (started-is (j .store) (j .size))
     ∙ call-state empty c (calm-start .sane) ∙ ap (λ (e : Event). stepped empty e .state) event
     ∙ ap (λ (s : Stepped). s .state) (made-ready empty (j .version) empty-unready)
 
@@ -92,54 +102,118 @@ fine-events n (c ∷ xs) = go (isEventOf n c) (fine-events n xs)
     go true f = (call-blocks (c .asked), f)
     go false f = f
 
--- ---- the general form
+-- every state that calls reach from Start, in any order, is calm
+pub calm-run : (st : State) → Calm st → (xs : List Call) → Calm (ends st xs)
+unfolding ends
+calm-run st g [] = g
+calm-run st g (c ∷ xs) = calm-run (after st c) (rw (call-state st c (g .sane)) (calm-step st g (eventIn (c .asked)) (fine-call (c .asked)))) xs
 
-module _ (l : ℕ) (st : State) (g : Running l st) (n : ℕ) (xs ys : List Call) (i : seen after (isEventOf n) (withFlag readCall meetsFull) st xs ≡ seen after (isEventOf n) (withFlag readCall meetsFull) st ys) where
-  same-told-by : toldTo n st xs ≡ toldTo n st ys
-  unfolding toldTo
-  same-told-by = same-outs (framed l n) st st xs ys g g refl i
+pub calm-started : (store : List ℕ) → length store ≡ STORE → Calm (startedOn store)
+calm-started store size = subst Calm (sym (started-is store size)) calm-start
 
-  same-left-by : view n (ends st xs) ≡ view n (ends st ys)
-  unfolding ends
-  same-left-by = same-final (framed l n) st st xs ys g g refl i
+-- so no proper call meets refusal 1
+pub never-refusal-1 :
+    (store : List ℕ) → length store ≡ STORE → (xs : List Call) (c : Call)
+    → badCall (ends (startedOn store) xs .table) (length (ends (startedOn store) xs .store)) (length (c .reply)) ≡ false
+never-refusal-1 store size xs c = not-bad (ends (startedOn store) xs) c (calm-run (startedOn store) (calm-started store size) xs .sane)
 
-module _ (l : ℕ) (st : State) (g : Running l st) (n : ℕ) where
-  same-inputs : (xs ys : List Call) → ownEvents n xs ≡ ownEvents n ys → fullFlags n st xs ≡ fullFlags n st ys → seen after (isEventOf n) (withFlag readCall meetsFull) st xs ≡ seen after (isEventOf n) (withFlag readCall meetsFull) st ys
-  unfolding ownEvents fullFlags
-  same-inputs xs ys e f =
-      inputs-beside readCall after meetsFull (isEventOf n) st xs
-      ∙ ap (λ (es : List Event). beside es (seen after (isEventOf n) meetsFull st xs)) e
-      ∙ ap (beside (map readCall (keep (isEventOf n) ys))) f
-      ∙ sym (inputs-beside readCall after meetsFull (isEventOf n) st ys)
+-- every state of a run from there is such a state again
+pub runs-on : (st : State) (j : JustReady st) (xs : List Call) → Running (fresh st j .level) (ends st xs)
+unfolding ends
+runs-on st j xs = let b = fresh st j in trace-inv (framed (b .level) 0) st xs (b .running)
 
-  pub strangers : (xs ys : List Call) → ownEvents n xs ≡ ownEvents n ys → fullFlags n st xs ≡ fullFlags n st ys → SameForOne st xs ys n
-  strangers xs ys e f = let i = same-inputs xs ys e f in record { same-told = same-told-by l st g n xs ys i; same-left = same-left-by l st g n xs ys i }
+pub runs-at-its-level : (st : State) → JustReady st → (xs : List Call) → Running (ends st xs .table .level) (ends st xs)
+runs-at-its-level st j xs = let g = runs-on st j xs in record { calm = g .calm; ready = g .ready; level = refl }
 
-  -- no event of the channel is flagged: its inputs are its own events
-  plain-inputs : (xs : List Call) → NeverFull st xs → seen after (isEventOf n) (withFlag readCall meetsFull) st xs ≡ map plain (ownEvents n xs)
-  unfolding ownEvents
-  plain-inputs xs f = never-flagged readCall after meetsFull (isEventOf n) st xs f
+-- ---- one channel, by its own events and flags
 
-  -- what a channel that is not open is told, by its own events alone
-  pub told-alone : view n st ≡ Shut → (xs : List Call) → NeverFull st xs → toldTo n st xs ≡ aloneOuts (chanNext l) (chanOut l) Shut (map plain (ownEvents n xs))
-  unfolding toldTo
-  told-alone v xs f =
-      trace-outs (framed l n) st xs g ∙ ap (aloneOuts (chanNext l) (chanOut l) (view n st)) (plain-inputs xs f) ∙ ap (λ (w : View). aloneOuts (chanNext l) (chanOut l) w (map plain (ownEvents n xs))) v
+module _ (l : ℕ) (st : State) (g : Running l st) (n : ℕ) (xs : List Call) where
+  own : List (Input Event Bool)
+  own = seen after (isEventOf n) (withFlag readCall meetsFull) st xs
 
-  -- it brings what its own events bring, alone
-  pub joins-alone : view n st ≡ Shut → (xs : List Call) → NeverFull st xs → map brought (toldTo n st xs) ≡ joinAll Off (ownEvents n xs)
-  joins-alone v xs f = ap (map brought) (told-alone v xs f) ∙ run-joins l Shut (ownEvents n xs) (fine-events n xs) tt
+  own-events : eventsIn own ≡ ownEvents n xs
+  unfolding ownEvents own
+  own-events = inputs-events readCall after meetsFull (isEventOf n) st xs
+
+  own-flags : flagsIn own ≡ fullFlags n st xs
+  unfolding fullFlags own
+  own-flags = inputs-flags readCall after meetsFull (isEventOf n) st xs
+
+  -- what a channel is told, wherever it stands
+  pub told-with : SoundView (view n st) → toldTo n st xs ≡ toldWith (joinOf (view n st)) (ownEvents n xs) (fullFlags n st xs)
+  unfolding toldTo own
+  told-with s =
+      trace-outs (framed l n) st xs g ∙ run-told l (view n st) own (rw own-events (fine-events n xs)) s
+      ∙ ap (λ (es : List Event). toldWith (joinOf (view n st)) es (flagsIn own)) own-events
+      ∙ ap (toldWith (joinOf (view n st)) (ownEvents n xs)) own-flags
+
+  -- where it is not open
+  pub told-shut : view n st ≡ Shut → toldTo n st xs ≡ toldWith Off (ownEvents n xs) (fullFlags n st xs)
+  told-shut v = told-with (rw v tt) ∙ ap (λ (w : View). toldWith (joinOf w) (ownEvents n xs) (fullFlags n st xs)) v
+
+  -- and no table is full
+  pub told-roomy : view n st ≡ Shut → NeverFull st xs → toldTo n st xs ≡ toldWith Off (ownEvents n xs) []
+  unfolding fullFlags
+  told-roomy v f =
+      told-shut v ∙ ap (toldWith Off (ownEvents n xs)) (never-seen after meetsFull (isEventOf n) st xs f)
+      ∙ unflagged (keep (isEventOf n) xs) Off (ownEvents n xs)
+
+-- two runs with the same own events and flags
+module _ (l : ℕ) (st : State) (g : Running l st) (n : ℕ) (xs ys : List Call) (e : ownEvents n xs ≡ ownEvents n ys) (f : fullFlags n st xs ≡ fullFlags n st ys) where
+  same-inputs : own l st g n xs ≡ own l st g n ys
+  same-inputs =
+      inputs-same (own l st g n xs) (own l st g n ys)
+      (own-events l st g n xs ∙ e ∙ sym (own-events l st g n ys))
+      (own-flags l st g n xs ∙ f ∙ sym (own-flags l st g n ys))
+
+  pub strangers : SameForOne st xs ys n
+  unfolding toldTo ends own
+  strangers =
+      record {
+        same-told = same-outs (framed l n) st st xs ys g g refl same-inputs;
+        same-left = same-final (framed l n) st st xs ys g g refl same-inputs;
+      }
 
 -- ---- demand 3
 
-pub demand-3 : Demand3
-unfolding Demand3
-demand-3 st j xs ys o f h n =
-    let b = fresh st j in
-    let g = b .running in
-    let i = plain-inputs (b .level) st g n xs f ∙ ap (map plain) (o n) ∙ sym (plain-inputs (b .level) st g n ys h) in
-    record {
-      same-told = same-told-by (b .level) st g n xs ys i;
-      joined = joins-alone (b .level) st g n (b .shut n) xs f;
-      same-left = same-left-by (b .level) st g n xs ys i;
-    }
+-- where neither order meets a full table the flags are the same
+same-flags :
+    (n : ℕ) (st : State) (xs ys : List Call) → ownEvents n xs ≡ ownEvents n ys → NeverFull st xs → NeverFull st ys
+    → fullFlags n st xs ≡ fullFlags n st ys
+unfolding fullFlags ownEvents
+same-flags n st xs ys e f h =
+    never-seen after meetsFull (isEventOf n) st xs f ∙ as-events (keep (isEventOf n) xs)
+    ∙ ap (map (λ (x : Event). false)) e
+    ∙ sym (never-seen after meetsFull (isEventOf n) st ys h ∙ as-events (keep (isEventOf n) ys))
+  where
+    as-events : (cs : List Call) → map (λ (c : Call). false) cs ≡ map (λ (x : Event). false) (map readCall cs)
+    as-events [] = refl
+    as-events (c ∷ cs) = ap (λ (r : List Bool). false ∷ r) (as-events cs)
+
+module _ (st : State) (j : JustReady st) (xs ys : List Call) (o : TwoOrders xs ys) (f : NeverFull st xs) (h : NeverFull st ys) where
+  both-ways : (n : ℕ) → SameForOne st xs ys n
+  both-ways n = let b = fresh st j in strangers (b .level) st (b .running) n xs ys (o n) (same-flags n st xs ys (o n) f h)
+
+  pub same-either-way : (n : ℕ) → SameEitherWay st xs ys n
+  same-either-way n =
+      let b = fresh st j in
+      let told = told-roomy (b .level) st (b .running) n xs (b .shut n) f in
+      record {
+        same-told = both-ways n .same-told;
+        joined = ap (map brought) told ∙ with-brings Off (ownEvents n xs) [];
+        each-once = ap (map handed) told ∙ with-once Off (ownEvents n xs) [];
+      }
+
+  pub same-but-places : SameButPlaces (ends st xs) (ends st ys)
+  same-but-places =
+      let a = runs-on st j xs in
+      let b = runs-on st j ys in
+      record {
+        ready = a .ready ∙ sym (b .ready);
+        level = a .level ∙ sym (b .level);
+        channels = λ n. both-ways n .same-left;
+        records-a = a .calm .blank;
+        records-b = b .calm .blank;
+        parts-a = a .calm .zero;
+        parts-b = b .calm .zero;
+      }

@@ -13,23 +13,29 @@ use Rattle.channel.specs.declared.Decline.the-variants.{Unlisted, Full}
 use Rattle.channel.specs.declared.Answer.{Answer}
 use Rattle.channel.specs.declared.Answer.the-variants.{Ready, Opened, Declined, Held, Message, Closed, Ignored, Refused}
 use Rattle.channel.specs.Stages.{took}
-use Rattle.channel.specs.Channel.{Act, BadCreate, Create, Bring, Closing, LocalClose, View, Shut, Open, Did, opening, answerTo, landed, act}
+use Rattle.channel.specs.Channel.{Act, BadCreate, Create, Bring, Closing, LocalClose, View, Shut, Open, Did, opening, answerTo, landed,
+    act}
 use Rattle.client.specs.State.{State, view}
 use Rattle.client.specs.Events.{Of}
 use Rattle.client.specs.Client.{stepped}
 use Rattle.steps.proofs.Channels.{step-answer}
 use Rattle.demands.specs.Trace.{consIf, keep}
-use Rattle.demands.specs.Runs.{Call, isEventOf, ownEvents, fullTable, asksRoom, eventMeetsFull}
+use Rattle.demands.specs.Runs.{Call, isEventOf, ownEvents, fullTable, asksRoom, eventMeetsFull, Running}
 use Rattle.demands.specs.Orders.{TwoOrders}
-use Rattle.demands.proofs.Machine.{Running, steady, roomFlag, readCall, ruled-flag}
+use Rattle.demands.specs.Useless.{isFull}
+use Rattle.demands.proofs.Machine.{steady, roomFlag, readCall, ruled-flag}
 
 -- ---- neighbours
 
-pub swap : (zs ws : List Call) (x y : Call) → ((n : ℕ) → isEventOf n x ≡ true → isEventOf n y ≡ true → ⊥) → TwoOrders (zs ++ (x ∷ y ∷ ws)) (zs ++ (y ∷ x ∷ ws))
+pub swap :
+    (zs ws : List Call) (x y : Call) → ((n : ℕ) → isEventOf n x ≡ true → isEventOf n y ≡ true → ⊥)
+    → TwoOrders (zs ++ (x ∷ y ∷ ws)) (zs ++ (y ∷ x ∷ ws))
 unfolding ownEvents
 swap zs ws x y d n = ap (map readCall) (go zs)
   where
-    here : (t : Bool) → isEventOf n x ≡ t → (u : Bool) → isEventOf n y ≡ u → consIf t x (consIf u y (keep (isEventOf n) ws)) ≡ consIf u y (consIf t x (keep (isEventOf n) ws))
+    here :
+        (t : Bool) → isEventOf n x ≡ t → (u : Bool) → isEventOf n y ≡ u
+        → consIf t x (consIf u y (keep (isEventOf n) ws)) ≡ consIf u y (consIf t x (keep (isEventOf n) ws))
     here true p true q = absurd (d n p q)
     here true p false q = refl
     here false p true q = refl
@@ -41,17 +47,6 @@ swap zs ws x y d n = ap (map readCall) (go zs)
 
 -- ---- the answer declined, full
 
-abbrev pub isFull : Answer → Bool
-isFull (Ready level) = false
-isFull (Opened n) = false
-isFull (Declined n Unlisted) = false
-isFull (Declined n Full) = true
-isFull (Held n left) = false
-isFull (Message n len) = false
-isFull (Closed n) = false
-isFull (Ignored n) = false
-isFull (Refused why concern) = false
-
 landed-full : (n : ℕ) (r : Record) (part bytes : List ℕ) (t : Took) → isFull (landed n r part bytes t .answer) ≡ false
 unfolding landed answerTo
 landed-full n r part bytes (Bars why) = refl
@@ -59,7 +54,8 @@ landed-full n r part bytes (Spoils why) = refl
 landed-full n r part bytes (Holds wanted at held) = refl
 landed-full n r part bytes (Finishes at len) = refl
 
-act-full : (l n : ℕ) (full : Bool) (v : View) (a : Act) → isFull (act l n (roomFlag (asksRoom v a && full)) v a .answer) ≡ (asksRoom v a && full)
+act-full :
+    (l n : ℕ) (full : Bool) (v : View) (a : Act) → isFull (act l n (roomFlag (asksRoom v a && full)) v a .answer) ≡ (asksRoom v a && full)
 unfolding act asksRoom opening
 act-full l n full Shut BadCreate = refl
 act-full l n true Shut (Create true pri) = refl
@@ -75,7 +71,8 @@ act-full l n full (Open r b) Closing = refl
 act-full l n full (Open r b) LocalClose = refl
 
 -- "meets a full table" is exactly the answer declined, full
-pub meets-answer : (l : ℕ) (st : State) → Running l st → (n : ℕ) (a : Act) → isFull (stepped st (Of n a) .answer) ≡ eventMeetsFull st (Of n a)
+pub meets-answer :
+    (l : ℕ) (st : State) → Running l st → (n : ℕ) (a : Act) → isFull (stepped st (Of n a) .answer) ≡ eventMeetsFull st (Of n a)
 unfolding eventMeetsFull
 meets-answer l st g n a =
     ap isFull (step-answer st (steady l st g) n a)

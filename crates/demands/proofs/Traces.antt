@@ -1,6 +1,6 @@
 -- The trace theorem, over any machine that has a view of one channel.
 -- Assumes nothing.
-use mathlib.Core.Path.{_≡_, refl, sym, _∙_}
+use mathlib.Core.Path.{_≡_, refl, sym, ap, _∙_}
 use mathlib.Core.Bool.{Bool, true, false}
 use mathlib.Core.List.{List, [], _∷_, map}
 use Rattle.demands.specs.Trace.{consIf, keep, final, seen, Never}
@@ -24,7 +24,8 @@ aloneOuts next out w (i ∷ is) = out (i .flag) w (i .event) ∷ aloneOuts next 
 
 -- The machine `next`, `out` shows one channel through `view`: its own inputs, told by `on`, move the view as the channel's machine
 -- `cnext`, `cout` says of what `read` reads in them, and the other inputs leave it.
-pub record Framed {S R E F O W : Type 0} (read : R → E) (next : S → R → S) (out : S → R → O) (flag : S → R → F) (on : R → Bool) (view : S → W) (cnext : F → W → E → W) (cout : F → W → E → O) (Inv : S → Type 0) : Type 0 where
+pub record Framed {S R E F O W : Type 0} (read : R → E) (next : S → R → S) (out : S → R → O) (flag : S → R → F) (on : R → Bool) (view : S → W) (cnext : F → W → E → W) (cout : F → W → E → O) (Inv : S → Type 0) :
+    Type 0 where
   pub stays : (s : S) (x : R) → Inv s → Inv (next s x)
   pub own : (s : S) (x : R) → Inv s → on x ≡ true → view (next s x) ≡ cnext (flag s x) (view s) (read x)
   pub says : (s : S) (x : R) → Inv s → on x ≡ true → out s x ≡ cout (flag s x) (view s) (read x)
@@ -35,60 +36,106 @@ module _ {S R E F O W : Type 0} {read : R → E} {next : S → R → S} {out : S
   trace-inv s [] i = i
   trace-inv s (x ∷ xs) i = trace-inv (next s x) xs (m .stays s x i)
 
-  pub trace-final : (s : S) (xs : List R) → Inv s → view (final next s xs) ≡ aloneFinal cnext (view s) (seen next on (withFlag read flag) s xs)
+  pub trace-final :
+      (s : S) (xs : List R) → Inv s → view (final next s xs) ≡ aloneFinal cnext (view s) (seen next on (withFlag read flag) s xs)
   trace-final s [] i = refl
   trace-final s (x ∷ xs) i = trace-final (next s x) xs (m .stays s x i) ∙ go (on x) refl
     where
       rest : List (Input E F)
       rest = seen next on (withFlag read flag) (next s x) xs
 
-      go : (b : Bool) → on x ≡ b → aloneFinal cnext (view (next s x)) rest ≡ aloneFinal cnext (view s) (consIf b (withFlag read flag s x) rest)
+      go :
+          (b : Bool) → on x ≡ b
+          → aloneFinal cnext (view (next s x)) rest ≡ aloneFinal cnext (view s) (consIf b (withFlag read flag s x) rest)
       go true h = rw (m .own s x i h)
       go false h = rw (m .other s x i h)
 
-  pub trace-outs : (s : S) (xs : List R) → Inv s → seen next on out s xs ≡ aloneOuts cnext cout (view s) (seen next on (withFlag read flag) s xs)
+  pub trace-outs :
+      (s : S) (xs : List R) → Inv s → seen next on out s xs ≡ aloneOuts cnext cout (view s) (seen next on (withFlag read flag) s xs)
   trace-outs s [] i = refl
   trace-outs s (x ∷ xs) i = rw (trace-outs (next s x) xs (m .stays s x i)) (go (on x) refl)
     where
       rest : List (Input E F)
       rest = seen next on (withFlag read flag) (next s x) xs
 
-      go : (b : Bool) → on x ≡ b → consIf b (out s x) (aloneOuts cnext cout (view (next s x)) rest) ≡ aloneOuts cnext cout (view s) (consIf b (withFlag read flag s x) rest)
+      go :
+          (b : Bool) → on x ≡ b
+          → consIf b (out s x) (aloneOuts cnext cout (view (next s x)) rest) ≡ aloneOuts cnext cout (view s) (consIf b (withFlag read flag s x) rest)
       go true h = rw (m .own s x i h, m .says s x i h)
       go false h = rw (m .other s x i h)
 
   -- two runs that agree on what is read in the channel's own inputs and on their flags agree on what it is told and where it ends
-  pub same-outs : (s s′ : S) (xs xs′ : List R) → Inv s → Inv s′ → view s ≡ view s′ → seen next on (withFlag read flag) s xs ≡ seen next on (withFlag read flag) s′ xs′ → seen next on out s xs ≡ seen next on out s′ xs′
+  pub same-outs :
+      (s s′ : S) (xs xs′ : List R) → Inv s → Inv s′ → view s ≡ view s′
+      → seen next on (withFlag read flag) s xs ≡ seen next on (withFlag read flag) s′ xs′
+      → seen next on out s xs ≡ seen next on out s′ xs′
   same-outs s s′ xs xs′ i i′ v h = trace-outs s xs i ∙ rw (v, h) (sym (trace-outs s′ xs′ i′))
 
-  pub same-final : (s s′ : S) (xs xs′ : List R) → Inv s → Inv s′ → view s ≡ view s′ → seen next on (withFlag read flag) s xs ≡ seen next on (withFlag read flag) s′ xs′ → view (final next s xs) ≡ view (final next s′ xs′)
+  pub same-final :
+      (s s′ : S) (xs xs′ : List R) → Inv s → Inv s′ → view s ≡ view s′
+      → seen next on (withFlag read flag) s xs ≡ seen next on (withFlag read flag) s′ xs′
+      → view (final next s xs) ≡ view (final next s′ xs′)
   same-final s s′ xs xs′ i i′ v h = trace-final s xs i ∙ rw (v, h) (sym (trace-final s′ xs′ i′))
 
--- ---- runs in which no input is flagged
-abbrev pub plain : {E : Type 0} → E → Input E Bool
-plain e = record { event = e; flag = false }
+-- ---- a channel's inputs are its own events beside their flags
 
-pub never-flagged : {S R E : Type 0} (read : R → E) (next : S → R → S) (full : S → R → Bool) (on : R → Bool) (s : S) (xs : List R) → Never next full s xs → seen next on (withFlag read full) s xs ≡ map plain (map read (keep on xs))
-never-flagged read next full on s [] f = refl
-never-flagged {E = E} read next full on s (x ∷ xs) f = rw (f .0, never-flagged read next full on (next s x) xs (f .1)) (go (on x))
+abbrev pub eventsIn : {E F : Type 0} → List (Input E F) → List E
+eventsIn [] = []
+eventsIn (i ∷ is) = i .event ∷ eventsIn is
+
+abbrev pub flagsIn : {E F : Type 0} → List (Input E F) → List F
+flagsIn [] = []
+flagsIn (i ∷ is) = i .flag ∷ flagsIn is
+
+same-input :
+    {E F : Type 0} {e e′ : E} {f f′ : F} → e ≡ e′ → f ≡ f′
+    → _≡_ {A = Input E F} (record { event = e; flag = f }) (record { event = e′; flag = f′ })
+same-input p q = cc
+
+-- inputs with the same events and the same flags are the same
+pub inputs-same : {E F : Type 0} (is js : List (Input E F)) → eventsIn is ≡ eventsIn js → flagsIn is ≡ flagsIn js → is ≡ js
+inputs-same [] [] e f = refl
+inputs-same [] (j ∷ js) e f = cc
+inputs-same (i ∷ is) [] e f = cc
+inputs-same (i ∷ is) (j ∷ js) e f =
+    let same-event : i .event ≡ j .event = cc in
+    let same-flag : i .flag ≡ j .flag = cc in
+    let here : i ≡ j = same-input same-event same-flag in
+    let events : eventsIn is ≡ eventsIn js = cc in
+    let flags : flagsIn is ≡ flagsIn js = cc in
+    let rest : is ≡ js = inputs-same is js events flags in
+    cc
+
+module _ {S R E F : Type 0} (read : R → E) (next : S → R → S) (flag : S → R → F) (on : R → Bool) where
+  -- the events are those that are read
+  pub inputs-events : (s : S) (xs : List R) → eventsIn (seen next on (withFlag read flag) s xs) ≡ map read (keep on xs)
+  inputs-events s [] = refl
+  inputs-events s (x ∷ xs) = go (on x) (inputs-events (next s x) xs)
+    where
+      go :
+          (b : Bool) → eventsIn (seen next on (withFlag read flag) (next s x) xs) ≡ map read (keep on xs)
+          → eventsIn (consIf b (withFlag read flag s x) (seen next on (withFlag read flag) (next s x) xs)) ≡ map read (consIf b x (keep on xs))
+      go true e = ap (λ (r : List E). read x ∷ r) e
+      go false e = e
+
+  -- the flags are those that are seen
+  pub inputs-flags : (s : S) (xs : List R) → flagsIn (seen next on (withFlag read flag) s xs) ≡ seen next on flag s xs
+  inputs-flags s [] = refl
+  inputs-flags s (x ∷ xs) = go (on x) (inputs-flags (next s x) xs)
+    where
+      go :
+          (b : Bool) → flagsIn (seen next on (withFlag read flag) (next s x) xs) ≡ seen next on flag (next s x) xs
+          → flagsIn (consIf b (withFlag read flag s x) (seen next on (withFlag read flag) (next s x) xs)) ≡ consIf b (flag s x) (seen next on flag (next s x) xs)
+      go true e = ap (λ (r : List F). flag s x ∷ r) e
+      go false e = e
+
+-- where a test never passes, what it says of those that are seen is false
+pub never-seen :
+    {S R : Type 0} (next : S → R → S) (test : S → R → Bool) (on : R → Bool) (s : S) (xs : List R) → Never next test s xs
+    → seen next on test s xs ≡ map (λ (x : R). false) (keep on xs)
+never-seen next test on s [] f = refl
+never-seen {R = R} next test on s (x ∷ xs) f = rw (f .0, never-seen next test on (next s x) xs (f .1)) (go (on x))
   where
-    go : (b : Bool) → consIf b (plain (read x)) (map plain (map read (keep on xs))) ≡ map {B = Input E Bool} plain (map read (consIf b x (keep on xs)))
-    go true = refl
-    go false = refl
-
--- a channel's inputs are its own events, read, beside their flags
-abbrev pub beside : {E : Type 0} → List E → List Bool → List (Input E Bool)
-beside [] bs = []
-beside (e ∷ es) [] = []
-beside (e ∷ es) (b ∷ bs) = record { event = e; flag = b } ∷ beside es bs
-
-pub inputs-beside : {S R E : Type 0} (read : R → E) (next : S → R → S) (full : S → R → Bool) (on : R → Bool) (s : S) (xs : List R) → seen next on (withFlag read full) s xs ≡ beside (map read (keep on xs)) (seen next on full s xs)
-inputs-beside read next full on s [] = refl
-inputs-beside {E = E} read next full on s (x ∷ xs) = rw (inputs-beside read next full on (next s x) xs) (go (on x))
-  where
-    bs : List Bool
-    bs = seen next on full (next s x) xs
-
-    go : (b : Bool) → consIf b (withFlag read full s x) (beside (map read (keep on xs)) bs) ≡ beside (map read (consIf b x (keep on xs))) (consIf b (full s x) bs)
+    go : (b : Bool) → consIf b false (map (λ (y : R). false) (keep on xs)) ≡ map (λ (y : R). false) (consIf b x (keep on xs))
     go true = refl
     go false = refl

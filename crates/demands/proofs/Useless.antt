@@ -1,37 +1,57 @@
--- None of the useless managers has demand 2, and none has demand 3. One run refutes them all: a few calls on numbers 5 and 6,
--- with PUMP as the one listener. Assumes nothing.
+-- None of the useless managers has demand 2, and of the fourteen only those that are wrong after a full table or in the level have
+-- demand 3 (proofs/Unseen). Two runs refute them all, with PUMP as the one listener; each refutation looks at one place of a run.
+-- Assumes nothing.
 use Prim.Native.Nat.{ℕ, zero, suc, _+_, _≤_}
-use mathlib.Core.Path.{_≡_, refl, sym, ap, _∙_}
-use mathlib.Core.Bool.{Bool, true, false}
+use mathlib.Core.Path.{_≡_, refl, sym, ap, _∙_, subst}
+use mathlib.Core.Bool.{Bool, true, false, cond}
 use mathlib.Core.List.{List, [], _∷_, map}
 use native.Mathlib.Omega.{arith}
 use lib.Dec.{lit≤}
+use lib.ListN.{length}
 use Rattle.paper.specs.Sizes.{PDU-MAX, MESSAGE-MAX, LIST-MAX, PARTS, REPLY-MIN}
+use Rattle.paper.specs.Statuses.{OPENED, FULL}
 use Rattle.paper.specs.declared.Refusal.{Refusal}
+use Rattle.paper.specs.declared.Refusal.the-variants.{NoCommand}
 use Rattle.lists.specs.Bytes.{zeros}
 use Rattle.lists.specs.Places.{place}
 use Rattle.lists.proofs.Cases.{true-not-false}
 use Rattle.numbers.specs.Numbers.{little, valueOf, valueAt, widthOf}
-use Rattle.reading.specs.Reading.{namedFor, createRequest, dataFirst, closing, afterNumber, badLengthWidth, numbered, byCommand, readPdu}
+use Rattle.reading.specs.Reading.{namedFor, createRequest, dataFirst, closing, afterNumber, badLengthWidth, numbered, capabilities,
+    byVersion, charged, byCommand, readPdu}
 use Rattle.reading.specs.Said.{bytesAt}
+use Rattle.laying.specs.Laying.{createResponseBytes, closeBytes, capsResponseBytes}
 use Rattle.listeners.specs.Listeners.{names, ended, noneEmpty, sameBytes, isOneOf, allNames, goodList, isListed}
 use Rattle.channel.specs.declared.Offer.the-variants.{First, More}
+use Rattle.channel.specs.declared.Decline.the-variants.{Full}
+use Rattle.channel.specs.declared.Concern.the-variants.{NoChannel}
 use Rattle.channel.specs.declared.Answer.{Answer}
 use Rattle.channel.specs.declared.Answer.the-variants.{Ready, Opened, Declined, Held, Message, Closed, Ignored, Refused}
 use Rattle.channel.specs.Stages.{added, begun, took}
-use Rattle.channel.specs.Channel.{Act, Create, Bring, Closing, openedRecord, restaged, opening, stageAfter, partAfter, answerTo, landed, act}
+use Rattle.channel.specs.Channel.{Create, Bring, Closing, openedRecord, restaged, opening, stageAfter, partAfter, answerTo, landed, act}
+use Rattle.channel.specs.Answers.{numberOf, declineNumber}
 use Rattle.table.specs.Table.{emptyTable, holds, isFree, numberPlace, freePlace, recordAt, withRecord}
 use Rattle.client.specs.State.{State, viewAt, view, roomAt, roomIn, wrote, save}
-use Rattle.client.specs.Events.{Event, Of, createAct, eventOf, eventFor, actFor, carriedBy}
+use Rattle.client.specs.Events.{Event, Unreadable, Capabilities, Of, createAct, eventOf, eventFor, actFor, carriedBy}
 use Rattle.client.specs.Client.{finished, acted, readied, stepped}
-use Rattle.demands.specs.Trace.{consIf, keep, seen, Never}
-use Rattle.demands.specs.Runs.{Asked, Pdu, Call, Told, eventIn, isOf, isEventOf, ownEvents, fullTable, asksRoom, eventMeetsFull, meetsFull}
-use Rattle.demands.specs.Joining.{Off, Brings, Nothing, StillToCome, Whole, gathered, startsWith, goesOn, joins, joinAll, broughtBy, brought}
-use Rattle.demands.specs.Managers.{Manager, tellsTo, paperBegin, paperNext, Roomy, whyNot, answered, stepSays, once, handed, Joins, Demand2Of, Demand3Of}
-use Rattle.demands.specs.Useless.{isNo, OnlyNo, refusesAll, Always, fixed, handsUp, tellsBy, nextBy, managerBy, allOff, rightNext, actTold, rightTold, blankTold, storeless, onceNext, onceTold, firstOnly, recountTold, invents, doubleTold, twice, keptNext, keeps, lost, disturbs, put}
-use Rattle.demands.proofs.Machine.{readCall}
+use Rattle.steps.specs.States.{isOf}
+use Rattle.demands.specs.Trace.{consIf, keep, final, seen}
+use Rattle.demands.specs.Runs.{Asked, receives, Call, Told, eventIn, isEventOf, eventsOf, ownEvents, fullTable, asksRoom,
+    eventMeetsFull}
+use Rattle.demands.specs.Joining.{Off, Gathering, Brings, NoMessage, StillToCome, Complete, gathered, startsWith, goesOn, joins,
+    joinsIf, joinWith, joinAll, broughtBy, brought, once, handed}
+use Rattle.demands.specs.Telling.{whyNot, answered, stepSays, saysIf, handsUp, toldIf, tellsNone}
+use Rattle.demands.specs.Managers.{Manager, Reached, at-first, called, JustStarted, first-start, new-start, everyTold, tellsTo,
+    Sight, atStart, sightNext, sightTold, readyTold, paperStart, shouldTell, nobodys, isNobodys, Roomy, strayUp, AllEmpty, Orders,
+    Demand2Of, Demand3Of}
+use Rattle.demands.specs.Useless.{isNo, isMessage, isHeld, isFull, OnlyNo, refusesAll, Always, fixed, Beside, fresh, managerBy,
+    right, With, warpNext, warpTold, warped, forget, always, respelled, noted, from-then, spoilsAfter, blankTold, storeless, firstOnly,
+    recountTold, invents, doubleTold, twice, keptMemory, keptStand, keptNext, keeps, lostBy, disturbNext, disturbs, lastTold, replays,
+    replayer, untilFull, neverDeclines, inventsLater, relevelTold, wrongLevel, keptOver, goesOnOver, HasNeither}
+use Rattle.demands.proofs.Third.{own-map, pick, seen-pick, seen-map, marks, nobody-marks, tail, two-gives-three}
+use Rattle.demands.proofs.ByFlags.{runBy, finalBy, fullFrom, roomy-run, should-by, calls-by, told-by, comes-to, respoken,
+    warped-by}
 
--- ---- the run
+-- ---- the runs
 
 call : Asked → Call
 unfolding REPLY-MIN zeros
@@ -41,89 +61,208 @@ PUMP : List ℕ
 PUMP = 0x50 ∷ 0x55 ∷ 0x4D ∷ 0x50 ∷ 0 ∷ []
 
 asks : List ℕ → Call
-asks pdu = call (Pdu PUMP pdu)
+asks pdu = call (receives PUMP pdu)
 
-run : List Call
-run =
-    asks (0x10 ∷ 5 ∷ PUMP)
-    ∷ asks (0x10 ∷ 6 ∷ PUMP)
+opens : ℕ → Call
+opens n = asks (0x10 ∷ n ∷ PUMP)
+
+hello : Call
+hello = asks (0x50 ∷ 0 ∷ 3 ∷ 0 ∷ 0 ∷ 0 ∷ 0 ∷ 0 ∷ 0 ∷ 0 ∷ 0 ∷ 0 ∷ [])
+
+-- a few calls on numbers 5 and 6
+short : List Call
+short =
+    opens 5
+    ∷ opens 6
     ∷ asks (0x30 ∷ 5 ∷ 7 ∷ 8 ∷ [])
+    ∷ asks (0x60 ∷ 5 ∷ [])
     ∷ asks (0x20 ∷ 5 ∷ 3 ∷ 1 ∷ [])
     ∷ asks (0x30 ∷ 6 ∷ 9 ∷ [])
-    ∷ asks (0x30 ∷ 5 ∷ 2 ∷ 3 ∷ [])
+    ∷ asks (0x30 ∷ 5 ∷ 2 ∷ [])
+    ∷ asks (0x30 ∷ 5 ∷ 3 ∷ [])
     ∷ asks (0x20 ∷ 5 ∷ 4 ∷ 1 ∷ [])
     ∷ asks (0x40 ∷ 5 ∷ [])
-    ∷ asks (0x10 ∷ 5 ∷ PUMP)
+    ∷ opens 5
     ∷ asks (0x30 ∷ 5 ∷ 2 ∷ 3 ∷ 4 ∷ [])
     ∷ []
 
--- the events that it is
-happened : List Event
-happened =
+short-events : List Event
+short-events =
     Of 5 (Create true 0)
     ∷ Of 6 (Create true 0)
     ∷ Of 5 (Bring More (7 ∷ 8 ∷ []))
+    ∷ Unreadable NoCommand
     ∷ Of 5 (Bring (First 3) (1 ∷ []))
     ∷ Of 6 (Bring More (9 ∷ []))
-    ∷ Of 5 (Bring More (2 ∷ 3 ∷ []))
+    ∷ Of 5 (Bring More (2 ∷ []))
+    ∷ Of 5 (Bring More (3 ∷ []))
     ∷ Of 5 (Bring (First 4) (1 ∷ []))
     ∷ Of 5 Closing
     ∷ Of 5 (Create true 0)
     ∷ Of 5 (Bring More (2 ∷ 3 ∷ 4 ∷ []))
     ∷ []
 
-read-run : map readCall run ≡ happened
-unfolding happened run asks PUMP call eventIn eventOf eventFor actFor carriedBy createAct readPdu byCommand numbered badLengthWidth afterNumber closing dataFirst createRequest namedFor bytesAt little valueOf valueAt widthOf place names ended noneEmpty sameBytes isOneOf allNames goodList isListed PDU-MAX LIST-MAX
-read-run = refl
+-- seventeen channels, and a message
+many : List Call
+many =
+    opens 1 ∷ opens 2 ∷ opens 3 ∷ opens 4 ∷ opens 5 ∷ opens 6 ∷ opens 7 ∷ opens 8
+    ∷ opens 9 ∷ opens 10 ∷ opens 11 ∷ opens 12 ∷ opens 13 ∷ opens 14 ∷ opens 15 ∷ opens 16
+    ∷ opens 17
+    ∷ asks (0x30 ∷ 5 ∷ 7 ∷ 8 ∷ [])
+    ∷ []
 
--- what it should bring on 5
-brings-5 : List Brings
-brings-5 = Nothing ∷ Whole (7 ∷ 8 ∷ []) ∷ StillToCome 2 ∷ Whole (1 ∷ 2 ∷ 3 ∷ []) ∷ StillToCome 3 ∷ Nothing ∷ Nothing ∷ Whole (2 ∷ 3 ∷ 4 ∷ []) ∷ []
+opened-event : ℕ → Event
+opened-event n = Of n (Create true 0)
 
-pub own-map : (n : ℕ) (xs : List Call) → ownEvents n xs ≡ keep (isOf n) (map readCall xs)
-unfolding ownEvents isEventOf
-own-map n [] = refl
-own-map n (c ∷ xs) = go (isOf n (readCall c)) (own-map n xs)
-  where
-    go : (t : Bool) → map readCall (keep (isEventOf n) xs) ≡ keep (isOf n) (map readCall xs) → map readCall (consIf t c (keep (isEventOf n) xs)) ≡ consIf t (readCall c) (keep (isOf n) (map readCall xs))
-    go true e = ap (λ (l : List Event). readCall c ∷ l) e
-    go false e = e
+many-events : List Event
+many-events =
+    opened-event 1 ∷ opened-event 2 ∷ opened-event 3 ∷ opened-event 4 ∷ opened-event 5 ∷ opened-event 6
+    ∷ opened-event 7 ∷ opened-event 8 ∷ opened-event 9 ∷ opened-event 10 ∷ opened-event 11 ∷ opened-event 12
+    ∷ opened-event 13 ∷ opened-event 14 ∷ opened-event 15 ∷ opened-event 16
+    ∷ opened-event 17
+    ∷ Of 5 (Bring More (7 ∷ 8 ∷ []))
+    ∷ []
 
-happened-brings : joinAll Off (keep (isOf 5) happened) ≡ brings-5
-unfolding happened brings-5 joinAll joins startsWith goesOn gathered MESSAGE-MAX
-happened-brings = refl
+hello-read : eventIn (hello .asked) ≡ Capabilities 3
+unfolding hello asks PUMP call eventIn eventOf eventFor actFor carriedBy readPdu byCommand capabilities byVersion charged little valueOf
+    valueAt PDU-MAX
+hello-read = refl
 
-run-brings : joinAll Off (ownEvents 5 run) ≡ brings-5
-run-brings = ap (joinAll Off) (own-map 5 run ∙ ap (keep (isOf 5)) read-run) ∙ happened-brings
+short-read : eventsOf short ≡ short-events
+unfolding short short-events opens asks PUMP call eventIn eventOf eventFor actFor carriedBy createAct readPdu byCommand numbered
+    badLengthWidth
+    afterNumber closing dataFirst createRequest namedFor bytesAt little valueOf valueAt widthOf place names ended noneEmpty sameBytes isOneOf
+    allNames goodList isListed PDU-MAX LIST-MAX
+short-read = refl
 
--- it meets no full table
-roomy-map : (st : State) (xs : List Call) → Never (λ (t : State) (e : Event). stepped t e .state) eventMeetsFull st (map readCall xs) → Never paperNext meetsFull st xs
-unfolding paperNext meetsFull
-roomy-map st [] f = tt
-roomy-map st (c ∷ xs) f = (f .0, roomy-map (stepped st (readCall c) .state) xs (f .1))
+many-read : eventsOf many ≡ many-events
+unfolding many many-events opened-event opens asks PUMP call eventIn eventOf eventFor actFor carriedBy createAct readPdu byCommand
+    numbered
+    badLengthWidth afterNumber closing dataFirst createRequest namedFor bytesAt little valueOf valueAt widthOf place names ended noneEmpty
+    sameBytes isOneOf allNames goodList isListed PDU-MAX LIST-MAX
+many-read = refl
 
-happened-roomy : (version : ℕ) → Never (λ (t : State) (e : Event). stepped t e .state) eventMeetsFull (paperBegin version) happened
-unfolding happened paperBegin readied stepped acted finished save wrote view viewAt roomIn roomAt numberPlace freePlace recordAt withRecord emptyTable holds isFree place act landed stageAfter partAfter answerTo restaged took begun added opening openedRecord eventMeetsFull asksRoom fullTable PARTS MESSAGE-MAX
-happened-roomy version = (refl, (refl, (refl, (refl, (refl, (refl, (refl, (refl, (refl, (refl, tt))))))))))
+with-hello : (xs : List Call) (es : List Event) → eventsOf xs ≡ es → eventsOf (hello ∷ xs) ≡ Capabilities 3 ∷ es
+with-hello xs es e = ap (λ (x : Event). x ∷ eventsOf xs) hello-read ∙ ap (λ (l : List Event). Capabilities 3 ∷ l) e
 
-run-roomy : (version : ℕ) → Roomy version run
-run-roomy version = roomy-map (paperBegin version) run (rw read-run (happened-roomy version))
+-- the paper's flags in them
+short-roomy : Roomy paperStart (Capabilities 3 ∷ short-events)
+unfolding short-events paperStart readied stepped acted finished save wrote view viewAt roomIn roomAt numberPlace freePlace recordAt
+    withRecord
+    emptyTable holds isFree place act landed stageAfter partAfter answerTo restaged took begun added opening openedRecord eventMeetsFull asksRoom
+    fullTable PARTS MESSAGE-MAX
+short-roomy = (refl, (refl, (refl, (refl, (refl, (refl, (refl, (refl, (refl, (refl, (refl, (refl, (refl, tt)))))))))))))
 
--- ---- what a manager that has a demand does on the run
+many-flags :
+    fullFrom paperStart (Capabilities 3 ∷ many-events)
+    ≡ false ∷ false ∷ false ∷ false ∷ false ∷ false ∷ false ∷ false ∷ false ∷ false ∷ false ∷ false ∷ false ∷ false ∷ false ∷ false
+    ∷ false ∷ true ∷ false ∷ []
+unfolding many-events opened-event paperStart readied stepped acted finished save wrote view viewAt roomIn roomAt numberPlace freePlace
+    recordAt
+    withRecord emptyTable holds isFree place act landed stageAfter partAfter answerTo restaged took begun added opening openedRecord eventMeetsFull
+    asksRoom fullTable PARTS MESSAGE-MAX
+many-flags = refl
 
-from-2 : {S : Type 0} (m : Manager S) → Demand2Of m → Joins m run 5
-unfolding Demand2Of
-from-2 m d = d run (run-roomy (m .version)) 5 .brings
+-- ---- what should be told in them
 
-from-3 : {S : Type 0} (m : Manager S) → Demand3Of m → Joins m run 5
-unfolding Demand3Of
-from-3 m d = d run run (λ n. refl) (run-roomy (m .version)) (run-roomy (m .version)) 5 .brings
+replies : Answer → List ℕ → Told
+replies a bytes = record { answer = a; reply = bytes; message = [] }
 
--- a list of what is brought, by its places
-abbrev nth : ℕ → List Brings → Brings
-nth k [] = Nothing
-nth zero (b ∷ bs) = b
-nth (suc k) (b ∷ bs) = nth k bs
+hands : ℕ → List ℕ → Told
+hands n message = record { answer = Message n (length message); reply = []; message = message ∷ [] }
+
+opened-told : ℕ → Told
+opened-told n = replies (Opened n) (createResponseBytes n OPENED)
+
+short-told : List Told
+short-told =
+    readyTold 3
+    ∷ opened-told 5
+    ∷ opened-told 6
+    ∷ hands 5 (7 ∷ 8 ∷ [])
+    ∷ tellsNone (Refused NoCommand NoChannel)
+    ∷ tellsNone (Held 5 2)
+    ∷ hands 6 (9 ∷ [])
+    ∷ tellsNone (Held 5 1)
+    ∷ hands 5 (1 ∷ 2 ∷ 3 ∷ [])
+    ∷ tellsNone (Held 5 3)
+    ∷ replies (Closed 5) (closeBytes 5)
+    ∷ opened-told 5
+    ∷ hands 5 (2 ∷ 3 ∷ 4 ∷ [])
+    ∷ []
+
+many-told : List Told
+many-told =
+    readyTold 3
+    ∷ opened-told 1 ∷ opened-told 2 ∷ opened-told 3 ∷ opened-told 4 ∷ opened-told 5 ∷ opened-told 6 ∷ opened-told 7 ∷ opened-told 8
+    ∷ opened-told 9 ∷ opened-told 10 ∷ opened-told 11 ∷ opened-told 12 ∷ opened-told 13 ∷ opened-told 14 ∷ opened-told 15 ∷ opened-told 16
+    ∷ replies (Declined 17 Full) (createResponseBytes 17 FULL)
+    ∷ hands 5 (7 ∷ 8 ∷ [])
+    ∷ []
+
+short-run : runBy sightNext sightTold atStart (Capabilities 3 ∷ short-events) [] ≡ short-told
+unfolding short-told short-events replies hands opened-told sightNext sightTold toldIf saysIf joinsIf handsUp stepSays answered whyNot
+    joins
+    startsWith goesOn gathered MESSAGE-MAX
+short-run = refl
+
+many-run : runBy sightNext sightTold atStart (Capabilities 3 ∷ many-events) (fullFrom paperStart (Capabilities 3 ∷ many-events)) ≡ many-told
+unfolding many-told many-events opened-event replies hands opened-told sightNext sightTold toldIf saysIf joinsIf handsUp stepSays answered
+    whyNot
+    joins startsWith goesOn gathered MESSAGE-MAX
+many-run = ap (runBy sightNext sightTold atStart (Capabilities 3 ∷ many-events)) many-flags
+
+-- what they bring on 5
+short-brings : List Brings
+short-brings =
+    NoMessage ∷ Complete (7 ∷ 8 ∷ []) ∷ StillToCome 2 ∷ StillToCome 1 ∷ Complete (1 ∷ 2 ∷ 3 ∷ []) ∷ StillToCome 3
+    ∷ NoMessage ∷ NoMessage ∷ Complete (2 ∷ 3 ∷ 4 ∷ []) ∷ []
+
+own-brings : joinAll Off (ownEvents 5 short) ≡ short-brings
+unfolding short-events short-brings joinWith joinsIf joins startsWith goesOn gathered MESSAGE-MAX
+own-brings = ap (joinAll Off) (own-map 5 short ∙ ap (keep (isOf 5)) short-read)
+
+-- ---- what a manager that has demand 3 tells in the short run
+
+short-roomy-calls : Roomy paperStart (eventsOf (hello ∷ short))
+short-roomy-calls = subst (λ (es : List Event). Roomy paperStart es) (sym (with-hello short short-events short-read)) short-roomy
+
+module _ {S : Type 0} (m : Manager S) (d : Demand3Of m) where
+  in-short : Orders m (m .next (m .begin) hello) short short
+  unfolding Demand3Of
+  in-short = d (m .begin) first-start hello 3 hello-read short short (λ n. refl) short-roomy-calls short-roomy-calls
+
+  -- on 5
+  on-five : tellsTo m (m .next (m .begin) hello) 5 short ≡ pick (map (isOf 5) short-events) (tail (everyTold m (m .begin) (hello ∷ short)))
+  unfolding tellsTo everyTold
+  on-five =
+      seen-pick (m .next) (isEventOf 5) (m .tells) (m .next (m .begin) hello) short
+      ∙ ap (λ (b : List Bool). pick b (seen (m .next) (λ c. true) (m .tells) (m .next (m .begin) hello) short)) (marks 5 short ∙ ap (map (isOf 5)) short-read)
+
+  brings-on-five : map brought (pick (map (isOf 5) short-events) (tail (everyTold m (m .begin) (hello ∷ short)))) ≡ short-brings
+  brings-on-five = ap (map brought) (sym on-five) ∙ in-short .each 5 .joined ∙ own-brings
+
+  once-on-five : map handed (pick (map (isOf 5) short-events) (tail (everyTold m (m .begin) (hello ∷ short)))) ≡ map once short-brings
+  once-on-five = ap (map handed) (sym on-five) ∙ in-short .each 5 .each-once ∙ ap (map once) own-brings
+
+  -- and at the unreadable PDU
+  strays-are : (s : S) → strayUp m s short ≡ map (λ (t : Told). t .message) (pick (map nobodys short-events) (everyTold m s short))
+  unfolding strayUp everyTold
+  strays-are s =
+      seen-map (m .next) isNobodys (m .tells) (λ (t : Told). t .message) s short
+      ∙ ap (map (λ (t : Told). t .message)) (seen-pick (m .next) isNobodys (m .tells) s short
+      ∙ ap (λ (b : List Bool). pick b (seen (m .next) (λ c. true) (m .tells) s short)) (nobody-marks short ∙ ap (map nobodys) short-read))
+
+  strays-in-short : AllEmpty (map (λ (t : Told). t .message) (pick (map nobodys short-events) (tail (everyTold m (m .begin) (hello ∷ short)))))
+  unfolding everyTold
+  strays-in-short = subst AllEmpty (strays-are (m .next (m .begin) hello)) (in-short .no-strays)
+
+-- ---- looking at one place of a run
+
+abbrev brings-at : ℕ → List Brings → Brings
+brings-at k [] = NoMessage
+brings-at zero (b ∷ bs) = b
+brings-at (suc k) (b ∷ bs) = brings-at k bs
 
 abbrev sum : List ℕ → ℕ
 sum [] = 0
@@ -131,44 +270,60 @@ sum (b ∷ bs) = b + sum bs
 
 -- a count, or the sum of a message's bytes
 abbrev weight : Brings → ℕ
-weight Nothing = 0
+weight NoMessage = 0
 weight (StillToCome left) = left
-weight (Whole message) = sum message
+weight (Complete message) = sum message
+
+abbrev weight-at : ℕ → List Brings → ℕ
+weight-at k bs = weight (brings-at k bs)
+
+-- an answer's number, and how many messages go up with it
+abbrev number-at : ℕ → List Told → ℕ
+number-at k [] = 0
+number-at zero (t ∷ ts) = numberOf (t .answer)
+number-at (suc k) (t ∷ ts) = number-at k ts
+
+abbrev ups-at : ℕ → List Told → ℕ
+ups-at k [] = 0
+ups-at zero (t ∷ ts) = length (t .message)
+ups-at (suc k) (t ∷ ts) = ups-at k ts
+
+-- what doesn't have demand 3 doesn't have demand 2
+pub neither : {S : Type 0} (m : Manager S) → (Demand3Of m → ⊥) → HasNeither m
+neither m h = (λ d. h (two-gives-three m d), h)
+
+-- ---- 1 and 2: any manager that answers so
+
+abbrev AllAre : (Brings → Type 0) → List Brings → Type 0
+AllAre P [] = Unit {0}
+AllAre P (b ∷ bs) = P b × AllAre P bs
+
+-- what is so at every call is so of all that a channel is told
+all-are :
+    {S : Type 0} (m : Manager S) (P : Brings → Type 0) → ((s : S) (c : Call) → P (brought (m .tells s c)))
+    → (n : ℕ) (s : S) (xs : List Call) → AllAre P (map brought (seen (m .next) (isEventOf n) (m .tells) s xs))
+all-are m P h n s [] = tt
+all-are m P h n s (c ∷ xs) = go (isEventOf n c) (all-are m P h n (m .next s c) xs)
+  where
+    go :
+        (t : Bool) → AllAre P (map brought (seen (m .next) (isEventOf n) (m .tells) (m .next s c) xs))
+        → AllAre P (map brought (consIf t (m .tells s c) (seen (m .next) (isEventOf n) (m .tells) (m .next s c) xs)))
+    go true r = (h s c, r)
+    go false r = r
+
+all-short :
+    {S : Type 0} (m : Manager S) → Demand3Of m → (P : Brings → Type 0) → ((s : S) (c : Call) → P (brought (m .tells s c)))
+    → AllAre P short-brings
+unfolding tellsTo
+all-short m d P h = subst (AllAre P) (in-short m d .each 5 .joined ∙ own-brings) (all-are m P h 5 (m .next (m .begin) hello) short)
 
 abbrev kind : Brings → ℕ
-kind Nothing = 0
+kind NoMessage = 0
 kind (StillToCome left) = 1
-kind (Whole message) = 2
+kind (Complete message) = 2
 
--- ---- 1 and 2: what any manager tells of place k of its channel's events, it tells at some state and call
-
-record Met {S : Type 0} (m : Manager S) (b : Brings) : Type 0 where
-  pub state : S
-  pub call : Call
-  pub is : brought (m .tells state call) ≡ b
-
-met : {S : Type 0} (m : Manager S) (n : ℕ) (s : S) (xs : List Call) (k : ℕ) → (b : Brings) → nth k (map brought (seen (m .next) (isEventOf n) (m .tells) s xs)) ≡ b → (kind b ≡ 0 → ⊥) → Met m b
-met m n s [] k b e h = absurd (h (ap kind (sym e)))
-met m n s (c ∷ xs) k b e h = go (isEventOf n c) k e (λ i f. met m n (m .next s c) xs i b f h)
-  where
-    go : (t : Bool) (k : ℕ) → nth k (map brought (consIf t (m .tells s c) (seen (m .next) (isEventOf n) (m .tells) (m .next s c) xs))) ≡ b → ((i : ℕ) → nth i (map brought (seen (m .next) (isEventOf n) (m .tells) (m .next s c) xs)) ≡ b → Met m b) → Met m b
-    go true zero e later = record { state = s; call = c; is = e }
-    go true (suc k) e later = later k e
-    go false k e later = later k e
-
-met-run : {S : Type 0} (m : Manager S) → Joins m run 5 → (k : ℕ) → (kind (nth k brings-5) ≡ 0 → ⊥) → Met m (nth k brings-5)
-unfolding tellsTo
-met-run m j k h = met m 5 (m .begin) run k (nth k brings-5) (ap (nth k) (j .joined ∙ run-brings)) h
-
-some-left : {S : Type 0} (m : Manager S) → Joins m run 5 → Met m (StillToCome 2)
-unfolding brings-5
-some-left m j = met-run m j 2 (λ e. omega arith)
-
-some-whole : {S : Type 0} (m : Manager S) → Joins m run 5 → Met m (Whole (7 ∷ 8 ∷ []))
-unfolding brings-5
-some-whole m j = met-run m j 1 (λ e. omega arith)
-
-no-brings : (a : Answer) (up : List (List ℕ)) → isNo a ≡ true → broughtBy a up ≡ Nothing
+-- a refusal or a decline brings nothing
+no-brings : (a : Answer) (up : List (List ℕ)) → isNo a ≡ true → kind (broughtBy a up) ≡ 0
 unfolding broughtBy
 no-brings (Ready level) up h = refl
 no-brings (Opened n) up h = refl
@@ -179,160 +334,322 @@ no-brings (Closed n) up h = refl
 no-brings (Ignored n) up h = refl
 no-brings (Refused why concern) up h = refl
 
-only-no : {S : Type 0} (m : Manager S) → OnlyNo m → Joins m run 5 → ⊥
-only-no m h j =
-    let w = some-whole m j in
-    let z : _≡_ {A = ℕ} 2 0 = ap kind (sym (w .is) ∙ no-brings (m .tells (w .state) (w .call) .answer) (m .tells (w .state) (w .call) .message) (h (w .state) (w .call))) in
+pub only-no-not-3 : {S : Type 0} (m : Manager S) → OnlyNo m → Demand3Of m → ⊥
+unfolding short-brings
+only-no-not-3 m h d =
+    let all = all-short m d (λ (b : Brings). kind b ≡ 0) (λ s c. no-brings (m .tells s c .answer) (m .tells s c .message) (h s c)) in
+    let z : _≡_ {A = ℕ} 2 0 = all .1 .0 in
     omega arith
 
--- 1: it refuses or declines everything
-pub only-no-not-2 : {S : Type 0} (m : Manager S) → OnlyNo m → Demand2Of m → ⊥
-only-no-not-2 m h d = only-no m h (from-2 m d)
-
-pub only-no-not-3 : {S : Type 0} (m : Manager S) → OnlyNo m → Demand3Of m → ⊥
-only-no-not-3 m h d = only-no m h (from-3 m d)
-
-pub refusesAll-not-2 : (why : Refusal) → Demand2Of (refusesAll why) → ⊥
+pub refuses-all-not-3 : (why : Refusal) → Demand3Of (refusesAll why) → ⊥
 unfolding refusesAll
-refusesAll-not-2 why d = only-no-not-2 (refusesAll why) (λ s c. refl) d
+refuses-all-not-3 why = only-no-not-3 (refusesAll why) (λ s c. refl)
 
-pub refusesAll-not-3 : (why : Refusal) → Demand3Of (refusesAll why) → ⊥
-unfolding refusesAll
-refusesAll-not-3 why d = only-no-not-3 (refusesAll why) (λ s c. refl) d
+-- one answer is a count at every call, or at none
+abbrev Allows : Answer → Brings → Type 0
+Allows (Ready level) b = kind b ≡ 0
+Allows (Opened n) b = kind b ≡ 0
+Allows (Declined n why) b = kind b ≡ 0
+Allows (Held n left) b = kind b ≡ 1
+Allows (Message n len) b = kind b ≡ 1 → ⊥
+Allows (Closed n) b = kind b ≡ 0
+Allows (Ignored n) b = kind b ≡ 0
+Allows (Refused why concern) b = kind b ≡ 0
 
--- one answer brings a count or a message, not both
-not-both : (a : Answer) (u v : List (List ℕ)) → kind (broughtBy a u) ≡ 1 → kind (broughtBy a v) ≡ 2 → ⊥
+allowed : (a : Answer) (up : List (List ℕ)) → Allows a (broughtBy a up)
 unfolding broughtBy
-not-both (Ready level) u v e f = omega arith
-not-both (Opened n) u v e f = omega arith
-not-both (Declined n why) u v e f = omega arith
-not-both (Held n left) u v e f = omega arith
-not-both (Message n len) [] v e f = omega arith
-not-both (Message n len) (x ∷ u) v e f = omega arith
-not-both (Closed n) u v e f = omega arith
-not-both (Ignored n) u v e f = omega arith
-not-both (Refused why concern) u v e f = omega arith
+allowed (Ready level) up = refl
+allowed (Opened n) up = refl
+allowed (Declined n why) up = refl
+allowed (Held n left) up = refl
+allowed (Message n len) [] = λ z. omega arith
+allowed (Message n len) (m ∷ up) = λ z. omega arith
+allowed (Closed n) up = refl
+allowed (Ignored n) up = refl
+allowed (Refused why concern) up = refl
 
-always : {S : Type 0} (m : Manager S) (a : Answer) → Always m a → Joins m run 5 → ⊥
-always m a h j =
-    let l = some-left m j in
-    let w = some-whole m j in
-    let u = m .tells (l .state) (l .call) .message in
-    let v = m .tells (w .state) (w .call) .message in
-    not-both a u v
-    (ap (λ (b : Answer). kind (broughtBy b u)) (sym (h (l .state) (l .call))) ∙ ap kind (l .is))
-    (ap (λ (b : Answer). kind (broughtBy b v)) (sym (h (w .state) (w .call))) ∙ ap kind (w .is))
-
--- 2: it gives one fixed answer
-pub always-not-2 : {S : Type 0} (m : Manager S) (a : Answer) → Always m a → Demand2Of m → ⊥
-always-not-2 m a h d = always m a h (from-2 m d)
+-- none allows a message and a count
+not-both : (a : Answer) (message : List ℕ) (left : ℕ) → Allows a (Complete message) → Allows a (StillToCome left) → ⊥
+not-both (Ready level) message left p q = omega arith
+not-both (Opened n) message left p q = omega arith
+not-both (Declined n why) message left p q = omega arith
+not-both (Held n l) message left p q = omega arith
+not-both (Message n len) message left p q = q refl
+not-both (Closed n) message left p q = omega arith
+not-both (Ignored n) message left p q = omega arith
+not-both (Refused why concern) message left p q = omega arith
 
 pub always-not-3 : {S : Type 0} (m : Manager S) (a : Answer) → Always m a → Demand3Of m → ⊥
-always-not-3 m a h d = always m a h (from-3 m d)
-
-pub fixed-not-2 : (t : Told) → Demand2Of (fixed t) → ⊥
-unfolding fixed
-fixed-not-2 t d = always-not-2 (fixed t) (t .answer) (λ s c. refl) d
+unfolding short-brings
+always-not-3 m a h d =
+    let all = all-short m d (Allows a) (λ s c. subst (λ (x : Answer). Allows a (broughtBy x (m .tells s c .message))) (sym (h s c)) (allowed a (m .tells s c .message))) in
+    not-both a _ _ (all .1 .0) (all .1 .1 .0)
 
 pub fixed-not-3 : (t : Told) → Demand3Of (fixed t) → ⊥
 unfolding fixed
-fixed-not-3 t d = always-not-3 (fixed t) (t .answer) (λ s c. refl) d
+fixed-not-3 t = always-not-3 (fixed t) (t .answer) (λ s c. refl)
 
--- ---- managers by what they do with a channel's event: what they tell in the run
+-- ---- 3 to 14: the right manager with one thing made wrong, in the short run
 
-pub by-events : {S : Type 0} (s : S) (next : S → ℕ → Act → S) (tells : S → ℕ → Act → Told) (n : ℕ) (xs : List Call) → tellsTo (managerBy s next tells) n xs ≡ seen (nextBy next) (isOf n) (tellsBy tells) s (map readCall xs)
-unfolding tellsTo managerBy isEventOf
-by-events s next tells n [] = refl
-by-events s next tells n (c ∷ xs) = ap (consIf (isOf n (readCall c)) (tellsBy tells s (readCall c))) (by-events (nextBy next s (readCall c)) next tells n xs)
+flags-of :
+    (xs : List Call) (es : List Event) → eventsOf xs ≡ es
+    → fullFrom paperStart (eventsOf (hello ∷ xs)) ≡ fullFrom paperStart (Capabilities 3 ∷ es)
+flags-of xs es e = ap (fullFrom paperStart) (with-hello xs es e)
 
-in-run : {S : Type 0} (s : S) (next : S → ℕ → Act → S) (tells : S → ℕ → Act → Told) → tellsTo (managerBy s next tells) 5 run ≡ seen (nextBy next) (isOf 5) (tellsBy tells) s happened
-in-run s next tells = by-events s next tells 5 run ∙ ap (seen (nextBy next) (isOf 5) (tellsBy tells) s) read-run
+module _ {S : Type 0} (s : S) (next : Bool → S → Event → S) (tells : Bool → S → Event → Told) where
+  -- what it tells
+  in-run :
+      (xs : List Call) (es : List Event) → eventsOf xs ≡ es
+      → everyTold (managerBy s next tells) (fresh s) (hello ∷ xs) ≡ runBy next tells s (Capabilities 3 ∷ es) (fullFrom paperStart (Capabilities 3 ∷ es))
+  in-run xs es e =
+      told-by next tells s (fresh s) (hello ∷ xs)
+      ∙ ap (λ (l : List Event). runBy next tells s l (fullFrom paperStart l)) (with-hello xs es e)
 
--- what it brings by events is then what it should
-should : {S : Type 0} (s : S) (next : S → ℕ → Act → S) (tells : S → ℕ → Act → Told) → Joins (managerBy s next tells) run 5 → map brought (seen (nextBy next) (isOf 5) (tellsBy tells) s happened) ≡ brings-5
-should s next tells j = ap (map brought) (sym (in-run s next tells)) ∙ j .joined ∙ run-brings
+  tells-short : everyTold (managerBy s next tells) (fresh s) (hello ∷ short) ≡ runBy next tells s (Capabilities 3 ∷ short-events) []
+  tells-short = in-run short short-events short-read ∙ roomy-run next tells paperStart s (Capabilities 3 ∷ short-events) short-roomy
 
--- 3: it never stores
-wrong-storeless : Joins storeless run 5 → ⊥
-unfolding storeless zeros happened brings-5 nextBy tellsBy rightNext rightTold actTold handsUp stepSays answered whyNot joins startsWith goesOn gathered broughtBy MESSAGE-MAX
-wrong-storeless j =
-    let e = should allOff rightNext (λ s n a. blankTold (rightTold s n a)) j in
-    let z : _≡_ {A = ℕ} 0 15 = ap (λ (bs : List Brings). weight (nth 1 bs)) e in
-    omega arith
+  three-brings :
+      Demand3Of (managerBy s next tells)
+      → map brought (pick (map (isOf 5) short-events) (tail (runBy next tells s (Capabilities 3 ∷ short-events) []))) ≡ short-brings
+  unfolding managerBy
+  three-brings d = ap (λ (l : List Told). map brought (pick (map (isOf 5) short-events) (tail l))) (sym tells-short) ∙ brings-on-five (managerBy s next tells) d
 
-pub storeless-not-2 : Demand2Of storeless → ⊥
-storeless-not-2 d = wrong-storeless (from-2 storeless d)
+-- and one that spoils what the right one tells
+module _ {M : Type 0} (m : M) (remember : M → Event → Told → M) (spoil : M → Event → Told → Told) where
+  tells-spoiled : everyTold (warped m remember spoil) (warped m remember spoil .begin) (hello ∷ short) ≡ respoken remember spoil m (Capabilities 3 ∷ short-events) short-told
+  unfolding warped managerBy
+  tells-spoiled =
+      tells-short (record { sight = atStart; memory = m }) (warpNext remember) (warpTold spoil)
+      ∙ warped-by remember spoil (record { sight = atStart; memory = m }) (Capabilities 3 ∷ short-events) []
+      ∙ ap (respoken remember spoil m (Capabilities 3 ∷ short-events)) short-run
 
+  spoiled-brings :
+      Demand3Of (warped m remember spoil)
+      → map brought (pick (map (isOf 5) short-events) (tail (respoken remember spoil m (Capabilities 3 ∷ short-events) short-told))) ≡ short-brings
+  spoiled-brings d = ap (λ (l : List Told). map brought (pick (map (isOf 5) short-events) (tail l))) (sym tells-spoiled) ∙ brings-on-five (warped m remember spoil) d
+
+  spoiled-once :
+      Demand3Of (warped m remember spoil)
+      → map handed (pick (map (isOf 5) short-events) (tail (respoken remember spoil m (Capabilities 3 ∷ short-events) short-told))) ≡ map once short-brings
+  spoiled-once d = ap (λ (l : List Told). map handed (pick (map (isOf 5) short-events) (tail l))) (sym tells-spoiled) ∙ once-on-five (warped m remember spoil) d
+
+  spoiled-strays :
+      Demand3Of (warped m remember spoil)
+      → AllEmpty (map (λ (t : Told). t .message) (pick (map nobodys short-events) (tail (respoken remember spoil m (Capabilities 3 ∷ short-events) short-told))))
+  spoiled-strays d = subst (λ (l : List Told). AllEmpty (map (λ (t : Told). t .message) (pick (map nobodys short-events) (tail l)))) tells-spoiled (strays-in-short (warped m remember spoil) d)
+
+-- 3: what it hands up are zeros
 pub storeless-not-3 : Demand3Of storeless → ⊥
-storeless-not-3 d = wrong-storeless (from-3 storeless d)
-
--- 4: it joins the first message properly, and later only reports lengths: the second is wrong
-wrong-firstOnly : Joins firstOnly run 5 → ⊥
-unfolding firstOnly onceNext onceTold zeros happened brings-5 nextBy tellsBy rightNext rightTold actTold handsUp stepSays answered whyNot joins startsWith goesOn gathered broughtBy MESSAGE-MAX
-wrong-firstOnly j =
-    let e = should (record { stand = allOff; had = false }) onceNext onceTold j in
-    let z : _≡_ {A = ℕ} 0 6 = ap (λ (bs : List Brings). weight (nth 3 bs)) e in
+unfolding storeless respelled short-events short-told short-brings replies hands opened-told zeros broughtBy
+storeless-not-3 d =
+    let z : _≡_ {A = ℕ} 0 15 = ap (weight-at 1) (spoiled-brings tt forget (always (λ e t. blankTold t)) d) in
     omega arith
 
-pub firstOnly-not-2 : Demand2Of firstOnly → ⊥
-firstOnly-not-2 d = wrong-firstOnly (from-2 firstOnly d)
-
-pub firstOnly-not-3 : Demand3Of firstOnly → ⊥
-firstOnly-not-3 d = wrong-firstOnly (from-3 firstOnly d)
-
--- 5: its count still to come is invented, whatever it is
-wrong-invents : (count : ℕ) → Joins (invents count) run 5 → ⊥
-unfolding invents happened brings-5 nextBy tellsBy rightNext rightTold actTold handsUp stepSays answered whyNot joins startsWith goesOn gathered broughtBy MESSAGE-MAX
-wrong-invents count j =
-    let e = should allOff rightNext (λ s n a. recountTold count (rightTold s n a)) j in
-    let y : count ≡ 2 = ap (λ (bs : List Brings). weight (nth 2 bs)) e in
-    let z : count ≡ 3 = ap (λ (bs : List Brings). weight (nth 4 bs)) e in
+-- 4: so from the second message on
+pub first-only-not-3 : Demand3Of firstOnly → ⊥
+unfolding firstOnly spoilsAfter short-events short-told short-brings replies hands opened-told zeros broughtBy
+first-only-not-3 d =
+    let z : _≡_ {A = ℕ} 0 6 = ap (weight-at 4) (spoiled-brings false (noted isMessage) (from-then blankTold) d) in
     omega arith
 
-pub invents-not-2 : (count : ℕ) → Demand2Of (invents count) → ⊥
-invents-not-2 count d = wrong-invents count (from-2 (invents count) d)
-
+-- 5: the counts 2 and 3 would be one
 pub invents-not-3 : (count : ℕ) → Demand3Of (invents count) → ⊥
-invents-not-3 count d = wrong-invents count (from-3 (invents count) d)
-
--- 6: it hands each message up twice
-wrong-twice : Joins twice run 5 → ⊥
-unfolding twice once happened brings-5 nextBy tellsBy rightNext rightTold actTold handsUp stepSays answered whyNot joins startsWith goesOn gathered broughtBy MESSAGE-MAX
-wrong-twice j =
-    let e = ap (map handed) (sym (in-run allOff rightNext (λ s n a. doubleTold (rightTold s n a)))) ∙ j .each-once ∙ ap (map once) run-brings in
-    let z : _≡_ {A = ℕ} 6 3 = ap sum e in
+unfolding invents respelled short-events short-told short-brings replies hands opened-told broughtBy
+invents-not-3 count d =
+    let e = spoiled-brings tt forget (always (λ e t. recountTold count t)) d in
+    let y : count ≡ 2 = ap (weight-at 2) e in
+    let z : count ≡ 3 = ap (weight-at 5) e in
     omega arith
 
-pub twice-not-2 : Demand2Of twice → ⊥
-twice-not-2 d = wrong-twice (from-2 twice d)
-
+-- 6: six messages in place of three
 pub twice-not-3 : Demand3Of twice → ⊥
-twice-not-3 d = wrong-twice (from-3 twice d)
-
--- 7: it keeps a channel's part over a reopening
-wrong-keeps : Joins keeps run 5 → ⊥
-unfolding keeps keptNext happened brings-5 nextBy tellsBy rightNext rightTold actTold handsUp stepSays answered whyNot joins startsWith goesOn gathered broughtBy MESSAGE-MAX
-wrong-keeps j =
-    let e = should (record { stand = allOff; left = allOff }) keptNext (λ s n a. rightTold (s .stand) n a) j in
-    let z : _≡_ {A = ℕ} 10 9 = ap (λ (bs : List Brings). weight (nth 7 bs)) e in
+unfolding twice respelled short-events short-told short-brings replies hands opened-told once
+twice-not-3 d =
+    let z : _≡_ {A = ℕ} 6 3 = ap sum (spoiled-once tt forget (always (λ e t. doubleTold t)) d) in
     omega arith
 
-pub keeps-not-2 : Demand2Of keeps → ⊥
-keeps-not-2 d = wrong-keeps (from-2 keeps d)
+-- 9: a message at the unreadable PDU
+pub replayer-not-3 : Demand3Of replayer → ⊥
+unfolding replayer replays short-events short-told replies hands opened-told
+replayer-not-3 d =
+    let z : _≡_ {A = ℕ} 1 0 = ap (λ (l : List (List ℕ)). length l) (spoiled-strays [] lastTold replays d .0) in
+    omega arith
 
+-- 12: the second count and the third would be one
+pub invents-later-not-3 : (count : ℕ) → Demand3Of (inventsLater count) → ⊥
+unfolding inventsLater spoilsAfter short-events short-told short-brings replies hands opened-told broughtBy
+invents-later-not-3 count d =
+    let e = spoiled-brings false (noted isHeld) (from-then (recountTold count)) d in
+    let y : count ≡ 1 = ap (weight-at 3) e in
+    let z : count ≡ 3 = ap (weight-at 5) e in
+    omega arith
+
+-- 7: the bytes from before the close
 pub keeps-not-3 : Demand3Of keeps → ⊥
-keeps-not-3 d = wrong-keeps (from-3 keeps d)
-
--- 8: an event of one channel changes another's stage
-wrong-disturbs : Joins disturbs run 5 → ⊥
-unfolding disturbs happened brings-5 nextBy tellsBy rightNext rightTold actTold handsUp stepSays answered whyNot joins startsWith goesOn gathered broughtBy MESSAGE-MAX
-wrong-disturbs j =
-    let e = should allOff (λ s n a. put n (joins (s n) a .join) (λ m. lost (s m))) rightTold j in
-    let z : _≡_ {A = ℕ} 5 6 = ap (λ (bs : List Brings). weight (nth 3 bs)) e in
+unfolding keeps keptNext keptStand keptMemory short-events short-brings broughtBy sightNext sightTold toldIf saysIf joinsIf handsUp
+    stepSays
+    answered whyNot joins startsWith goesOn gathered MESSAGE-MAX
+keeps-not-3 d =
+    let z : _≡_ {A = ℕ} 10 9 = ap (weight-at 8) (three-brings _ keptNext (λ full w e. sightTold full (w .sight) e) d) in
     omega arith
 
-pub disturbs-not-2 : Demand2Of disturbs → ⊥
-disturbs-not-2 d = wrong-disturbs (from-2 disturbs d)
-
+-- 8: what 5 had gathered is lost
 pub disturbs-not-3 : Demand3Of disturbs → ⊥
-disturbs-not-3 d = wrong-disturbs (from-3 disturbs d)
+unfolding disturbs disturbNext lostBy short-events short-brings broughtBy sightNext sightTold toldIf saysIf joinsIf handsUp stepSays
+    answered
+    whyNot joins startsWith goesOn gathered MESSAGE-MAX
+disturbs-not-3 d =
+    let z : _≡_ {A = ℕ} 2 1 = ap (weight-at 3) (three-brings atStart disturbNext sightTold d) in
+    omega arith
+
+-- ---- demand 2, where demand 3 doesn't see it
+
+module _ {S : Type 0} (s : S) (next : Bool → S → Event → S) (tells : Bool → S → Event → Told) (d : Demand2Of (managerBy s next tells)) where
+  tells-right :
+      (xs : List Call) (es : List Event) → eventsOf xs ≡ es
+      → runBy next tells s (Capabilities 3 ∷ es) (fullFrom paperStart (Capabilities 3 ∷ es)) ≡ runBy sightNext sightTold atStart (Capabilities 3 ∷ es) (fullFrom paperStart (Capabilities 3 ∷ es))
+  unfolding Demand2Of managerBy
+  tells-right xs es e =
+      sym (in-run s next tells xs es e) ∙ d (fresh s) first-start (hello ∷ xs)
+      ∙ ap (shouldTell paperStart atStart) (with-hello xs es e) ∙ should-by paperStart atStart (Capabilities 3 ∷ es)
+
+module _ {M : Type 0} (m : M) (remember : M → Event → Told → M) (spoil : M → Event → Told → Told) (d : Demand2Of (warped m remember spoil)) where
+  spoils-nothing : respoken remember spoil m (Capabilities 3 ∷ many-events) many-told ≡ many-told
+  unfolding warped
+  spoils-nothing =
+      ap (respoken remember spoil m (Capabilities 3 ∷ many-events)) (sym many-run)
+      ∙ sym (warped-by remember spoil (record { sight = atStart; memory = m }) (Capabilities 3 ∷ many-events) (fullFrom paperStart (Capabilities 3 ∷ many-events)))
+      ∙ tells-right (record { sight = atStart; memory = m }) (warpNext remember) (warpTold spoil) d many many-events many-read ∙ many-run
+
+-- 10: after the full table a message goes up twice
+pub until-full-not-2 : Demand2Of untilFull → ⊥
+unfolding untilFull spoilsAfter many-events opened-event many-told replies hands opened-told
+until-full-not-2 d =
+    let z : _≡_ {A = ℕ} 2 1 = ap (ups-at 18) (spoils-nothing false (noted isFull) (from-then doubleTold) d) in
+    omega arith
+
+-- 13: the level is wrong at the first call
+pub wrong-level-not-2 : Demand2Of wrongLevel → ⊥
+unfolding wrongLevel respelled many-events opened-event many-told replies hands opened-told numberOf
+wrong-level-not-2 d =
+    let z : _≡_ {A = ℕ} 3 2 = ap (number-at 0) (spoils-nothing tt forget (always relevelTold) d) in
+    omega arith
+
+-- 11: the seventeenth is opened
+pub never-declines-not-2 : Demand2Of neverDeclines → ⊥
+unfolding neverDeclines many-events opened-event many-told replies opened-told numberOf declineNumber sightNext sightTold toldIf saysIf
+    joinsIf handsUp stepSays
+    answered whyNot joins startsWith goesOn gathered MESSAGE-MAX
+never-declines-not-2 d =
+    let z : _≡_ {A = ℕ} 0 2 = ap (number-at 17) (tells-right atStart (λ full. sightNext false) (λ full. sightTold false) d many many-events many-read ∙ many-run) in
+    omega arith
+
+-- ---- 14: it goes on over a new Start
+
+before : List Call
+before = hello ∷ opens 5 ∷ asks (0x20 ∷ 5 ∷ 4 ∷ 1 ∷ []) ∷ []
+
+before-events : List Event
+before-events = Capabilities 3 ∷ Of 5 (Create true 0) ∷ Of 5 (Bring (First 4) (1 ∷ [])) ∷ []
+
+before-read : eventsOf before ≡ before-events
+unfolding before before-events hello opens asks PUMP call eventIn eventOf eventFor actFor carriedBy createAct readPdu byCommand
+    capabilities byVersion
+    charged numbered badLengthWidth afterNumber dataFirst createRequest namedFor bytesAt little valueOf valueAt widthOf place names ended noneEmpty
+    sameBytes isOneOf allNames goodList isListed PDU-MAX LIST-MAX
+before-read = refl
+
+-- it stands in the middle of a message
+before-flags : fullFrom paperStart before-events ≡ false ∷ false ∷ false ∷ []
+unfolding before-events paperStart readied stepped acted finished save wrote view viewAt roomIn roomAt numberPlace freePlace recordAt
+    withRecord
+    emptyTable holds isFree place act landed stageAfter partAfter answerTo restaged took begun added opening openedRecord eventMeetsFull asksRoom
+    fullTable PARTS MESSAGE-MAX
+before-flags = refl
+
+at-the-end : Beside Sight
+at-the-end = final (right .next) (right .begin) before
+
+in-the-middle : at-the-end .kept .stand 5 ≡ Gathering 4 (1 ∷ [])
+unfolding at-the-end right managerBy before-events sightNext joinsIf joins startsWith gathered MESSAGE-MAX
+in-the-middle =
+    ap (λ (s : Sight). s .stand 5)
+    (comes-to sightNext sightTold atStart (fresh atStart) before
+    ∙ ap (λ (es : List Event). finalBy sightNext atStart es (fullFrom paperStart es)) before-read
+    ∙ ap (finalBy sightNext atStart before-events) before-flags)
+
+-- then a new Start, a Capabilities request, and a block
+behind : Call
+behind = asks (0x30 ∷ 5 ∷ 9 ∷ [])
+
+then-events : List Event
+then-events = Capabilities 3 ∷ Of 5 (Bring More (9 ∷ [])) ∷ []
+
+then-read : eventsOf (hello ∷ behind ∷ []) ≡ then-events
+unfolding then-events behind hello asks PUMP call eventIn eventOf eventFor actFor carriedBy readPdu byCommand capabilities byVersion
+    charged numbered
+    badLengthWidth afterNumber bytesAt little valueOf valueAt widthOf PDU-MAX
+then-read = refl
+
+then-roomy : Roomy paperStart then-events
+unfolding then-events paperStart readied stepped acted finished save wrote view viewAt roomIn roomAt numberPlace freePlace recordAt
+    withRecord
+    emptyTable holds isFree place act eventMeetsFull asksRoom fullTable PARTS
+then-roomy = (refl, (refl, tt))
+
+then-roomy-calls : Roomy paperStart (eventsOf (hello ∷ behind ∷ []))
+then-roomy-calls = subst (λ (es : List Event). Roomy paperStart es) (sym then-read) then-roomy
+
+reached-run : {S : Type 0} (m : Manager S) (s : S) → Reached m s → (xs : List Call) → Reached m (final (m .next) s xs)
+reached-run m s r [] = r
+reached-run m s r (c ∷ xs) = reached-run m (m .next s c) (called c r) xs
+
+was-reached : Reached goesOnOver at-the-end
+unfolding goesOnOver at-the-end
+was-reached = reached-run goesOnOver (right .begin) at-first before
+
+-- what it tells then
+goes-on-tells : everyTold goesOnOver (keptOver at-the-end) (hello ∷ behind ∷ []) ≡ runBy sightNext sightTold (keptOver at-the-end .kept) then-events []
+unfolding everyTold goesOnOver right managerBy
+goes-on-tells =
+    calls-by sightNext sightTold (keptOver at-the-end) (hello ∷ behind ∷ [])
+    ∙ ap (λ (es : List Event). runBy sightNext sightTold (keptOver at-the-end .kept) es (fullFrom paperStart es)) then-read
+    ∙ roomy-run sightNext sightTold paperStart (keptOver at-the-end .kept) then-events then-roomy
+
+second : List Told → Brings
+second [] = NoMessage
+second (t ∷ []) = NoMessage
+second (t ∷ u ∷ ts) = brought u
+
+counts-on : second (runBy sightNext sightTold (keptOver at-the-end .kept) then-events []) ≡ StillToCome 2
+unfolding second then-events sightNext sightTold toldIf saysIf joinsIf handsUp stepSays answered whyNot joins goesOn gathered broughtBy
+counts-on = rw in-the-middle
+
+then-own : ownEvents 5 (behind ∷ []) ≡ Of 5 (Bring More (9 ∷ [])) ∷ []
+unfolding then-events
+then-own = own-map 5 (behind ∷ []) ∙ ap (λ (es : List Event). keep (isOf 5) (tail es)) then-read
+
+own-is : isEventOf 5 behind ≡ true
+unfolding isEventOf then-events
+own-is = ap (λ (es : List Event). first-of-5 (tail es)) then-read
+  where
+    first-of-5 : List Event → Bool
+    first-of-5 [] = false
+    first-of-5 (e ∷ es) = isOf 5 e
+
+-- on 5 it tells one thing, which is the second of all
+tells-one :
+    {S : Type 0} (m : Manager S) (s : S)
+    → weight-at 0 (map brought (tellsTo m (m .next s hello) 5 (behind ∷ []))) ≡ weight (second (everyTold m s (hello ∷ behind ∷ [])))
+unfolding tellsTo everyTold second
+tells-one m s = rw own-is
+
+pub goes-on-not-3 : Demand3Of goesOnOver → ⊥
+unfolding Demand3Of goesOnOver joinWith joinsIf joins
+goes-on-not-3 d =
+    let s = keptOver at-the-end in
+    let o = d s (new-start was-reached) hello 3 hello-read (behind ∷ []) (behind ∷ []) (λ n. refl) then-roomy-calls then-roomy-calls in
+    let none : weight-at 0 (map brought (tellsTo goesOnOver (goesOnOver .next s hello) 5 (behind ∷ []))) ≡ 0 = ap (weight-at 0) (o .each 5 .joined ∙ ap (joinAll Off) then-own) in
+    let two = ap weight (ap second goes-on-tells ∙ counts-on) in
+    let z : _≡_ {A = ℕ} 0 2 = sym none ∙ tells-one goesOnOver s ∙ two in
+    omega arith

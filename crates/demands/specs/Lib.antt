@@ -1,8 +1,13 @@
 pub mod Trace
 pub mod Runs
 pub mod Joining
+pub mod Telling
 pub mod Orders
 pub mod Cut
+pub mod Twice
 pub mod Managers
 pub mod Useless
 pub mod Starred
+pub mod Demand1
+pub mod Demand2
+pub mod Demand3

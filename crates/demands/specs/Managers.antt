@@ -1,140 +1,153 @@
--- Demands 2 and 3 as properties of any manager: a record of functions on values, with states of any type. They are stated on
--- answers, replies, counts still to come and message bytes. What they suppose, that no event meets a full table, is judged by the
--- paper's steps on the calls' own events, from the empty table on, and never by the manager's state or answers; and what a channel
--- should be told is said of its own events alone, by where its joining stands: no table, no record, no store.
-use Prim.Native.Nat.{ℕ}
+-- Demands 2 and 3 as properties of any manager: a record of functions on values, with states of any type. They are
+-- stated on what the host is told alone: answers, replies and messages. What a call should be told is said by the
+-- events alone: whether a Capabilities request came, where each number's joining stands, and whether the paper's
+-- own steps on the events before it met a full table. No table, no record and no store of the manager's is looked
+-- at.
+use Prim.Native.Nat.{ℕ, min}
 use mathlib.Core.Path.{_≡_}
-use mathlib.Core.Bool.{cond}
+use mathlib.Core.Bool.{Bool, true, false, cond}
 use mathlib.Core.List.{List, [], _∷_, map}
-use lib.Dec.{ltb}
-use lib.ListN.{length}
-use Rattle.paper.specs.Sizes.{STORE, MESSAGE-MAX}
-use Rattle.paper.specs.Statuses.{OPENED, UNLISTED}
-use Rattle.paper.specs.declared.Refusal.{Refusal}
-use Rattle.paper.specs.declared.Refusal.the-variants.{BadList, WrongTime, NotOpen, AlreadyOpen, StillJoining, OverLimit, PastLength, IsSpoiled}
+use lib.Dec.{eqb}
+use Rattle.paper.specs.Sizes.{STORE}
+use Rattle.paper.specs.declared.Refusal.the-variants.{WrongTime}
 use Rattle.lists.specs.Bytes.{zeros}
-use Rattle.laying.specs.Laying.{createResponseBytes, closeBytes}
-use Rattle.channel.specs.declared.Offer.{Offer}
-use Rattle.channel.specs.declared.Offer.the-variants.{First, More}
-use Rattle.channel.specs.declared.Decline.the-variants.{Unlisted}
-use Rattle.channel.specs.declared.Concern.the-variants.{NoChannel, Channel}
-use Rattle.channel.specs.declared.Answer.{Answer}
-use Rattle.channel.specs.declared.Answer.the-variants.{Opened, Declined, Held, Message, Closed, Ignored, Refused}
-use Rattle.channel.specs.Channel.{Act, BadCreate, Create, Bring, Closing, LocalClose}
+use Rattle.laying.specs.Laying.{capsResponseBytes}
+use Rattle.channel.specs.declared.Concern.the-variants.{NoChannel}
+use Rattle.channel.specs.declared.Answer.the-variants.{Ready, Refused}
 use Rattle.table.specs.Table.{emptyTable}
 use Rattle.client.specs.State.{State, stateOf}
 use Rattle.client.specs.Events.{Event, Unreadable, Capabilities, Of}
-use Rattle.client.specs.Client.{readied, stepped}
+use Rattle.client.specs.Client.{OUR-VERSION, stepped}
 use Rattle.demands.specs.Trace.{seen, Never}
-use Rattle.demands.specs.Runs.{Call, Told, after, told, eventIn, isEventOf, ownEvents, meetsFull}
-use Rattle.demands.specs.Joining.{Join, Off, Quiet, Gathering, Dead, Brings, Nothing, StillToCome, Whole, joins, joinAll, brought}
-use Rattle.demands.specs.Orders.{JustReady, TwoOrders}
+use Rattle.demands.specs.Runs.{Call, Told, after, told, eventIn, isEventOf, eventsOf, ownEvents, eventMeetsFull,
+    startedOn}
+use Rattle.demands.specs.Joining.{Join, Off, joinsIf, joinAll, brought, once, handed}
+use Rattle.demands.specs.Orders.{TwoOrders}
+use Rattle.demands.specs.Telling.{toldIf, tellsNone}
 
--- a manager with states in S, just made ready by a Capabilities request of a version
+-- ---- managers
+
+-- a manager with states in S
 pub record Manager (S : Type 0) : Type 0 where
-  pub version : ℕ
+  -- as its first Start left it
   pub begin : S
+  -- as a new Start on what it holds leaves it
+  pub again : S → S
   pub next : S → Call → S
   pub tells : S → Call → Told
 
--- what it tells a channel, in the channel's order
-unfoldable pub tellsTo : {S : Type 0} → Manager S → ℕ → List Call → List Told
-tellsTo m n xs = seen (m .next) (isEventOf n) (m .tells) (m .begin) xs
+-- ours, on a store
+unfoldable pub ours : List ℕ → Manager State
+ours store = record { begin = startedOn store; again = λ st. startedOn (st .store); next = after; tells = told }
 
--- ours: the calls of `receive` and `local_close`, from a state just made ready
-unfoldable pub ours : (st : State) → JustReady st → Manager State
-ours st j = record { version = j .version; begin = st; next = after; tells = told }
+-- a state that calls and new Starts reach
+pub data Reached {S : Type 0} (m : Manager S) : S → Type 0 where
+  at-first : Reached m (m .begin)
+  called : {s : S} (c : Call) → Reached m s → Reached m (m .next s c)
+  restarted : {s : S} → Reached m s → Reached m (m .again s)
 
--- ---- what is supposed, by the paper's steps
+-- a state that a Start left: the first, or a new one after any calls
+pub data JustStarted {S : Type 0} (m : Manager S) : S → Type 0 where
+  first-start : JustStarted m (m .begin)
+  new-start : {s : S} → Reached m s → JustStarted m (m .again s)
 
-unfoldable pub paperBegin : ℕ → State
-paperBegin version = readied (stateOf emptyTable (zeros STORE)) version .state
+-- what it tells from a state on, call by call
+unfoldable pub everyTold : {S : Type 0} → Manager S → S → List Call → List Told
+everyTold m s xs = seen (m .next) (λ c. true) (m .tells) s xs
 
-unfoldable pub paperNext : State → Call → State
-paperNext st c = stepped st (eventIn (c .asked)) .state
+-- what it tells one channel, in the channel's order
+unfoldable pub tellsTo : {S : Type 0} → Manager S → S → ℕ → List Call → List Told
+tellsTo m s n xs = seen (m .next) (isEventOf n) (m .tells) s xs
 
--- no event of the run meets a full table
-abbrev pub Roomy : ℕ → List Call → Type 0
-Roomy version xs = Never paperNext meetsFull (paperBegin version) xs
+-- ---- what it should tell
 
--- ---- the steps, by where a channel's joining stands: the answer and the bytes of the reply
+-- where each number's joining stands
+abbrev pub Stand : Type 0
+Stand = ℕ → Join
 
-pub record Said : Type 0 where
-  pub answer : Answer
-  pub reply : List ℕ
+abbrev pub put : ℕ → Join → Stand → Stand
+put n j s = λ m. cond (eqb m n) j (s m)
 
-abbrev pub says : Answer → List ℕ → Said
-says answer reply = record { answer = answer; reply = reply }
+abbrev pub allOff : Stand
+allOff = λ n. Off
 
--- why a block that an open channel gets brings nothing
-unfoldable pub whyNot : Join → Offer → Refusal
-whyNot Off offer = NotOpen
-whyNot Quiet (First len) = cond (ltb MESSAGE-MAX len) OverLimit PastLength
-whyNot Quiet More = PastLength
-whyNot (Gathering wanted got) (First len) = StillJoining
-whyNot (Gathering wanted got) More = PastLength
-whyNot Dead offer = IsSpoiled
+-- what the events so far make of the connection
+pub record Sight : Type 0 where
+  pub ready : Bool
+  pub stand : Stand
 
--- "held, with the bytes still to come", "message, with its length"
-unfoldable pub answered : ℕ → Refusal → Brings → Answer
-answered n why Nothing = Refused why (Channel n)
-answered n why (StillToCome left) = Held n left
-answered n why (Whole message) = Message n (length message)
+abbrev pub atStart : Sight
+atStart = record { ready = false; stand = allOff }
 
-unfoldable pub stepSays : ℕ → Join → Act → Said
-stepSays n j BadCreate = says (Refused BadList NoChannel) []
-stepSays n Off (Create listed pri) = cond listed (says (Opened n) (createResponseBytes n OPENED)) (says (Declined n Unlisted) (createResponseBytes n UNLISTED))
-stepSays n Quiet (Create listed pri) = says (Refused AlreadyOpen (Channel n)) []
-stepSays n (Gathering wanted got) (Create listed pri) = says (Refused AlreadyOpen (Channel n)) []
-stepSays n Dead (Create listed pri) = says (Refused AlreadyOpen (Channel n)) []
-stepSays n j (Bring offer block) = says (answered n (whyNot j offer) (joins j (Bring offer block) .brings)) []
-stepSays n Off Closing = says (Ignored n) []
-stepSays n Quiet Closing = says (Closed n) (closeBytes n)
-stepSays n (Gathering wanted got) Closing = says (Closed n) (closeBytes n)
-stepSays n Dead Closing = says (Closed n) (closeBytes n)
-stepSays n Off LocalClose = says (Refused NotOpen (Channel n)) []
-stepSays n Quiet LocalClose = says (Closed n) (closeBytes n)
-stepSays n (Gathering wanted got) LocalClose = says (Closed n) (closeBytes n)
-stepSays n Dead LocalClose = says (Closed n) (closeBytes n)
+unfoldable pub sightNext : Bool → Sight → Event → Sight
+sightNext full s (Unreadable why) = s
+sightNext full s (Capabilities version) = record { ready = true; stand = s .stand }
+sightNext full s (Of n a) =
+    cond (s .ready) (record { ready = true; stand = put n (joinsIf full (s .stand n) a .join) (s .stand) }) s
 
--- for each of a channel's own events, alone
-unfoldable pub saysAll : Join → List Event → List Said
-saysAll j [] = []
-saysAll j (Unreadable why ∷ es) = says (Refused why NoChannel) [] ∷ saysAll j es
-saysAll j (Capabilities version ∷ es) = says (Refused WrongTime NoChannel) [] ∷ saysAll j es
-saysAll j (Of n a ∷ es) = stepSays n j a ∷ saysAll (joins j a .join) es
+-- "Capabilities request: ready. The level in use is the smaller of the server's version and 2."
+abbrev pub readyTold : ℕ → Told
+readyTold version =
+    record { answer = Ready (min version OUR-VERSION); reply = capsResponseBytes OUR-VERSION; message = [] }
 
-abbrev pub said : Told → Said
-said t = says (t .answer) (t .reply)
+unfoldable pub sightTold : Bool → Sight → Event → Told
+sightTold full s (Unreadable why) = tellsNone (Refused why NoChannel)
+sightTold full s (Capabilities version) = cond (s .ready) (tellsNone (Refused WrongTime NoChannel)) (readyTold version)
+sightTold full s (Of n a) = cond (s .ready) (toldIf full n (s .stand n) a) (tellsNone (Refused WrongTime NoChannel))
 
--- "each once": a whole message is handed up once, and nothing else is
-unfoldable pub once : Brings → ℕ
-once Nothing = 0
-once (StillToCome left) = 0
-once (Whole message) = 1
+-- the paper's steps on the events, for the full table alone
+unfoldable pub paperStart : State
+paperStart = stateOf emptyTable (zeros STORE)
 
-abbrev pub handed : Told → ℕ
-handed t = length (t .message)
+-- call by call, from a state of the paper's and what the events so far made
+unfoldable pub shouldTell : State → Sight → List Event → List Told
+shouldTell p s [] = []
+shouldTell p s (e ∷ es) =
+    sightTold (eventMeetsFull p e) s e ∷ shouldTell (stepped p e .state) (sightNext (eventMeetsFull p e) s e) es
 
--- ---- the demands
-
--- the messages and the counts still to come are those of the joining, each once
-pub record Joins {S : Type 0} (m : Manager S) (xs : List Call) (n : ℕ) : Type 0 where
-  pub joined : map brought (tellsTo m n xs) ≡ joinAll Off (ownEvents n xs)
-  pub each-once : map handed (tellsTo m n xs) ≡ map once (joinAll Off (ownEvents n xs))
-
--- the steps, for every event of a run
-pub record StepsRight {S : Type 0} (m : Manager S) (xs : List Call) (n : ℕ) : Type 0 where
-  pub steps : map said (tellsTo m n xs) ≡ saysAll Off (ownEvents n xs)
-  pub brings : Joins m xs n
+-- ---- demand 2: from every Start on, every call of every run is told so
 
 unfoldable pub Demand2Of : {S : Type 0} → Manager S → Type 0
-Demand2Of m = (xs : List Call) → Roomy (m .version) xs → (n : ℕ) → StepsRight m xs n
+Demand2Of {S} m =
+    (s : S) → JustStarted m s → (xs : List Call) → everyTold m s xs ≡ shouldTell paperStart atStart (eventsOf xs)
 
--- two orders of the same events
-pub record OrdersAlike {S : Type 0} (m : Manager S) (xs ys : List Call) (n : ℕ) : Type 0 where
-  pub same-told : tellsTo m n xs ≡ tellsTo m n ys
-  pub brings : Joins m xs n
+-- ---- demand 3: just made ready, two orders, no full table
+
+-- an event of no channel
+abbrev pub nobodys : Event → Bool
+nobodys (Unreadable why) = true
+nobodys (Capabilities version) = true
+nobodys (Of n a) = false
+
+unfoldable pub isNobodys : Call → Bool
+isNobodys c = nobodys (eventIn (c .asked))
+
+-- no event of the run meets a full table, by the paper's steps
+abbrev pub Roomy : State → List Event → Type 0
+Roomy p es = Never (λ (q : State) (e : Event). stepped q e .state) eventMeetsFull p es
+
+-- the channel gets the same in both orders, and its messages are those of the joining, each once
+pub record OrdersAlike {S : Type 0} (m : Manager S) (s : S) (xs ys : List Call) (n : ℕ) : Type 0 where
+  pub same-told : tellsTo m s n xs ≡ tellsTo m s n ys
+  pub joined : map brought (tellsTo m s n xs) ≡ joinAll Off (ownEvents n xs)
+  pub each-once : map handed (tellsTo m s n xs) ≡ map once (joinAll Off (ownEvents n xs))
+
+-- "exactly those [..] each once": an event of no channel hands up nothing
+unfoldable pub strayUp : {S : Type 0} → Manager S → S → List Call → List (List (List ℕ))
+strayUp m s xs = seen (m .next) isNobodys (λ t c. m .tells t c .message) s xs
+
+abbrev pub AllEmpty : List (List (List ℕ)) → Type 0
+AllEmpty [] = Unit {0}
+AllEmpty (up ∷ ups) = (up ≡ []) × AllEmpty ups
+
+pub record Orders {S : Type 0} (m : Manager S) (s : S) (xs ys : List Call) : Type 0 where
+  pub each : (n : ℕ) → OrdersAlike m s xs ys n
+  pub no-strays : AllEmpty (strayUp m s xs)
 
 unfoldable pub Demand3Of : {S : Type 0} → Manager S → Type 0
-Demand3Of m = (xs ys : List Call) → TwoOrders xs ys → Roomy (m .version) xs → Roomy (m .version) ys → (n : ℕ) → OrdersAlike m xs ys n
+Demand3Of {S} m =
+    (s : S) → JustStarted m s
+    → (c : Call) (version : ℕ) → eventIn (c .asked) ≡ Capabilities version
+    → (xs ys : List Call) → TwoOrders xs ys
+    → Roomy paperStart (eventsOf (c ∷ xs)) → Roomy paperStart (eventsOf (c ∷ ys))
+    → Orders m (m .next s c) xs ys

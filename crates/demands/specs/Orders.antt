@@ -1,38 +1,15 @@
 -- Demand 3, stated: two orders of the same events.
 use Prim.Native.Nat.{ℕ}
 use mathlib.Core.Path.{_≡_}
-use mathlib.Core.Bool.{Bool, true}
 use mathlib.Core.List.{List, map}
-use lib.ListN.{length}
-use Rattle.paper.specs.Sizes.{STORE}
-use Rattle.reading.specs.Reading.{readPdu}
-use Rattle.reading.specs.declared.Charges.{Charges}
-use Rattle.reading.specs.declared.Pdu.the-variants.{CapsRequest}
-use Rattle.client.specs.State.{State, stateOf, view}
-use Rattle.client.specs.Client.{started, storeStarted}
-use Rattle.demands.specs.Trace.{seen, Never}
-use Rattle.demands.specs.Runs.{Pdu, Call, after, toldTo, ends, isEventOf, ownEvents, meetsFull}
-use Rattle.demands.specs.Joining.{Off, brought, joinAll}
+use Rattle.client.specs.State.{State, view}
+use Rattle.steps.specs.States.{FreePartsAreZero, FreeRecordsAreBlank}
+use Rattle.demands.specs.Trace.{Never}
+use Rattle.demands.specs.Runs.{Call, after, toldTo, ends, ownEvents, meetsFull}
+use Rattle.demands.specs.Joining.{Off, brought, joinAll, once, handed}
 
--- what Start leaves on a store
-unfoldable pub begun : List ℕ → State
-begun store = stateOf (started store .table) (storeStarted store)
-
--- "'Just made ready' is Start, then one accepted Capabilities request": Start on any 65,536 bytes, used before or not
-pub record JustReady (st : State) : Type 0 where
-  pub store : List ℕ
-  pub size : length store ≡ STORE
-  pub call : Call
-  pub list : List ℕ
-  pub pdu : List ℕ
-  pub asks : call .asked ≡ Pdu list pdu
-  pub version : ℕ
-  pub charges : Charges
-  pub accepted : readPdu true pdu ≡ CapsRequest version charges
-  pub then : st ≡ after (begun store) call
-
--- "two orders of the same received PDUs and local closes that keep each channel's own events in order": for each number the
--- same events of that number in the same order; nothing is supposed of the others
+-- "two orders of the same received PDUs and local closes that keep each channel's own events in order": for each
+-- number the same events of that number in the same order; nothing is supposed of the others
 abbrev pub TwoOrders : List Call → List Call → Type 0
 TwoOrders xs ys = (n : ℕ) → ownEvents n xs ≡ ownEvents n ys
 
@@ -40,22 +17,28 @@ TwoOrders xs ys = (n : ℕ) → ownEvents n xs ≡ ownEvents n ys
 abbrev pub NeverFull : State → List Call → Type 0
 NeverFull st xs = Never after meetsFull st xs
 
--- "each channel gets the same answers and replies, and its messages are exactly those that demand 2 gives for its own events
--- alone, each once. At the end each open channel has the same record and the same stored bytes."
+-- "each channel gets the same answers and replies, and its messages are exactly those that demand 2 gives for its
+-- own events alone, each once"
 pub record SameEitherWay (st : State) (xs ys : List Call) (n : ℕ) : Type 0 where
   pub same-told : toldTo n st xs ≡ toldTo n st ys
   pub joined : map brought (toldTo n st xs) ≡ joinAll Off (ownEvents n xs)
-  pub same-left : view n (ends st xs) ≡ view n (ends st ys)
+  pub each-once : map handed (toldTo n st xs) ≡ map once (joinAll Off (ownEvents n xs))
 
-unfoldable pub Demand3 : Type 0
-Demand3 = (st : State) → JustReady st → (xs ys : List Call) → TwoOrders xs ys → NeverFull st xs → NeverFull st ys → (n : ℕ) → SameEitherWay st xs ys n
+-- "At the end each open channel has the same record and the same stored bytes. Only where in the store a channel
+-- stands may differ": ready, level, and what is free are the same too
+pub record SameButPlaces (a b : State) : Type 0 where
+  pub ready : a .table .ready ≡ b .table .ready
+  pub level : a .table .level ≡ b .table .level
+  -- each number: not open in both, or open in both with the same record and the same part
+  pub channels : (n : ℕ) → view n a ≡ view n b
+  -- every free record is as Start made it, and so is its part
+  pub records-a : FreeRecordsAreBlank a
+  pub records-b : FreeRecordsAreBlank b
+  pub parts-a : FreePartsAreZero a
+  pub parts-b : FreePartsAreZero b
 
--- ---- strangers: the general form. Two runs from one state; other channels arbitrary
-
--- whether each of the channel's own events met a full table
-unfoldable pub fullFlags : ℕ → State → List Call → List Bool
-fullFlags n st xs = seen after (isEventOf n) meetsFull st xs
-
+-- strangers, the general form: two runs from one state, in which one channel's own events are the same and met a
+-- full table alike; other channels are arbitrary
 pub record SameForOne (st : State) (xs ys : List Call) (n : ℕ) : Type 0 where
   pub same-told : toldTo n st xs ≡ toldTo n st ys
   pub same-left : view n (ends st xs) ≡ view n (ends st ys)

@@ -1,24 +1,30 @@
--- What a run is: calls of `receive` and `local_close`, as their contracts say, one after the other on the table and the store.
+-- What a run is: calls of `receive` and `local_close`, as their contracts say, one after the other on the table and
+-- the store; what the host is told in it; and whose event each call is.
 use Prim.Native.Nat.{ℕ, _≤_}
+use mathlib.Core.Path.{_≡_}
 use mathlib.Core.Bool.{Bool, true, false, not, _&&_}
 use mathlib.Core.List.{List, [], _∷_, map}
 use lib.Dec.{eqb, ltb}
 use lib.ListN.{length, take}
-use Rattle.paper.specs.Sizes.{PARTS, REPLY-MIN}
+use Rattle.paper.specs.Sizes.{PARTS, STORE, REPLY-MIN}
 use Rattle.reading.specs.Reading.{readPdu}
+use Rattle.reading.specs.declared.Charges.{Charges}
+use Rattle.reading.specs.declared.Pdu.the-variants.{CapsRequest}
 use Rattle.channel.specs.declared.Answer.{Answer}
-use Rattle.channel.specs.declared.Answer.the-variants.{Ready, Opened, Declined, Held, Message, Closed, Ignored, Refused}
+use Rattle.channel.specs.declared.Answer.the-variants.{Ready, Opened, Declined, Held, Message, Closed, Ignored,
+    Refused}
 use Rattle.channel.specs.Channel.{Act, BadCreate, Create, Bring, Closing, LocalClose, View, Shut, Open}
 use Rattle.table.specs.Table.{freePlace}
 use Rattle.client.specs.State.{State, stateOf, view}
 use Rattle.client.specs.Events.{Event, Unreadable, Capabilities, Of, eventOf}
-use Rattle.client.specs.Client.{Whole, received, locallyClosed}
+use Rattle.client.specs.Client.{Whole, received, locallyClosed, started, storeStarted}
+use Rattle.steps.specs.States.{Calm, isOf}
 use Rattle.demands.specs.Trace.{keep, final, seen}
 
 -- what a call is asked: a PDU with the list that is lent, or a close by the host
 pub data Asked : Type 0 where
-  Pdu : List ℕ → List ℕ → Asked
-  Close : ℕ → Asked
+  receives : List ℕ → List ℕ → Asked
+  closes : ℕ → Asked
 
 -- a call with its reply buffer, of any length from 9 on and any contents
 pub record Call : Type 0 where
@@ -28,8 +34,8 @@ pub record Call : Type 0 where
 
 -- what the call gives: the contracts of `receive` and `local_close`
 unfoldable pub gives : State → Asked → List ℕ → Whole
-gives st (Pdu list pdu) reply = received (st .table) (st .store) list pdu reply
-gives st (Close n) reply = locallyClosed (st .table) (st .store) n reply
+gives st (receives list pdu) reply = received (st .table) (st .store) list pdu reply
+gives st (closes n) reply = locallyClosed (st .table) (st .store) n reply
 
 -- the state afterwards
 unfoldable pub after : State → Call → State
@@ -68,21 +74,20 @@ told st c =
 
 -- the event that a call is
 unfoldable pub eventIn : Asked → Event
-eventIn (Pdu list pdu) = eventOf list pdu (readPdu true pdu)
-eventIn (Close n) = Of n LocalClose
+eventIn (receives list pdu) = eventOf list pdu (readPdu true pdu)
+eventIn (closes n) = Of n LocalClose
 
 -- "A channel's events are the readable PDUs that carry its number (accepted or not) and its local closes."
-abbrev pub isOf : ℕ → Event → Bool
-isOf n (Unreadable why) = false
-isOf n (Capabilities version) = false
-isOf n (Of m a) = eqb m n
-
 unfoldable pub isEventOf : ℕ → Call → Bool
 isEventOf n c = isOf n (eventIn (c .asked))
 
+-- the events of a run
+abbrev pub eventsOf : List Call → List Event
+eventsOf cs = map (λ (c : Call). eventIn (c .asked)) cs
+
 -- a channel's own events, in their order
 unfoldable pub ownEvents : ℕ → List Call → List Event
-ownEvents n cs = map (λ (c : Call). eventIn (c .asked)) (keep (isEventOf n) cs)
+ownEvents n cs = eventsOf (keep (isEventOf n) cs)
 
 -- what a channel is told, in its order
 unfoldable pub toldTo : ℕ → State → List Call → List Told
@@ -111,3 +116,32 @@ eventMeetsFull st (Of n a) = asksRoom (view n st) a && fullTable st
 
 unfoldable pub meetsFull : State → Call → Bool
 meetsFull st c = eventMeetsFull st (eventIn (c .asked))
+
+-- whether each of the channel's own events met one
+unfoldable pub fullFlags : ℕ → State → List Call → List Bool
+fullFlags n st xs = seen after (isEventOf n) meetsFull st xs
+
+-- ---- where runs begin
+
+-- what Start leaves on a store
+unfoldable pub startedOn : List ℕ → State
+startedOn store = stateOf (started store .table) (storeStarted store)
+
+-- "'Just made ready' is Start, then one accepted Capabilities request": Start on any 65,536 bytes, used before or not
+pub record JustReady (st : State) : Type 0 where
+  pub store : List ℕ
+  pub size : length store ≡ STORE
+  pub call : Call
+  pub list : List ℕ
+  pub pdu : List ℕ
+  pub asks : call .asked ≡ receives list pdu
+  pub version : ℕ
+  pub charges : Charges
+  pub accepted : readPdu true pdu ≡ CapsRequest version charges
+  pub then : st ≡ after (startedOn store) call
+
+-- a state of a run once the connection is ready, at a level
+pub record Running (l : ℕ) (st : State) : Type 0 where
+  pub calm : Calm st
+  pub ready : st .table .ready ≡ true
+  pub level : st .table .level ≡ l

@@ -1,10 +1,9 @@
--- The thirteen starred numbers of the paper, as one statement over a single list. Here and only here numbers stand bare: the list
+-- The thirteen starred numbers of the paper, as one statement over a single list. The numbers stand bare: the list
 -- is the paper's own text, and it pins the sizes and the refusals' numbers to what the paper says.
-use Prim.Native.Nat.{ℕ, zero, suc, _/_}
+use Prim.Native.Nat.{ℕ, _-_, _/_}
 use mathlib.Core.Path.{_≡_}
-use mathlib.Core.Bool.{true, cond}
-use mathlib.Core.List.{List, [], _∷_, map}
-use lib.Dec.{ltb}
+use mathlib.Core.Bool.{true}
+use mathlib.Core.List.{List, [], _∷_}
 use lib.ListN.{getD, length}
 use Rattle.paper.specs.Sizes.{PDU-MAX}
 use Rattle.paper.specs.Commands.{DATA-FIRST, DATA}
@@ -12,40 +11,39 @@ use Rattle.paper.specs.Refusals.{refusalNumber}
 use Rattle.lists.specs.Bytes.{zeros}
 use Rattle.reading.specs.Reading.{readPdu}
 use Rattle.reading.specs.declared.Pdu.{Pdu}
-use Rattle.reading.specs.declared.Pdu.the-variants.{CreateRequest, CreateResponse, DataFirst, Data, Close, CapsRequest, CapsResponse, Refused}
-use Rattle.cutting.specs.Cutting.{block, cutPdu, cutAt}
-use Rattle.cutting.specs.declared.Piece.{Piece}
-use Rattle.cutting.specs.declared.Piece.the-variants.{Pdu as Cut, Refused as NotCut}
+use Rattle.reading.specs.declared.Pdu.the-variants.{CreateRequest, CreateResponse, DataFirst, Data, Close,
+    CapsRequest, CapsResponse, Refused}
 use Rattle.channel.specs.Stages.{took}
 use Rattle.channel.specs.declared.Stage.the-variants.{Idle}
 use Rattle.channel.specs.declared.Offer.the-variants.{First}
 use Rattle.channel.specs.declared.Took.{Took}
 use Rattle.channel.specs.declared.Took.the-variants.{Bars, Spoils, Holds, Finishes}
 use Rattle.channel.specs.declared.Answer.{Answer}
-use Rattle.channel.specs.declared.Answer.the-variants.{Ready, Opened, Declined, Held, Message, Closed, Ignored, Refused as NotDone}
+use Rattle.channel.specs.declared.Answer.the-variants.{Ready, Opened, Declined, Held, Message, Closed, Ignored,
+    Refused as NotDone}
 use Rattle.channel.specs.Channel.{NoRoom, Shut, act}
 use Rattle.client.specs.Events.{createAct}
-
--- what is asked
-pub data Star : Type 0 where
-  -- a PDU from the server is read
-  reads : List ℕ → Star
-  -- a Create request comes with this list
-  lists : List ℕ → Star
-  -- a message of so many bytes is cut for a number
-  cuts : ℕ → ℕ → Star
-  -- a Data First of this Length comes on an idle channel
-  begins : ℕ → Star
+use Rattle.demands.specs.Cut.{Cut, CutByUs}
 
 -- a PDU of a cut message: its Cmd, the offset and the length of its block, its own length
 pub data Block : Type 0 where
   block-of : ℕ → ℕ → ℕ → ℕ → Block
 
--- what is found: a refusal by its number, no refusal, or the PDUs of a cut message
+-- what is found: a refusal by its number, or none
 pub data Found : Type 0 where
   refused : ℕ → Found
   accepted : Found
-  pdus : List Block → Found
+
+-- a starred case: what is asked, and what is found
+pub data Case : Type 0 where
+  -- a PDU from the server is read
+  reads : List ℕ → Found → Case
+  -- a Create request comes with this list
+  lists : List ℕ → Found → Case
+  -- a message of so many bytes is cut for a number into these PDUs
+  cuts : ℕ → ℕ → List Block → Case
+  -- a Data First of this Length comes on an idle channel
+  begins : ℕ → Found → Case
 
 unfoldable pub reading : Pdu → Found
 reading (CreateRequest number class name) = accepted
@@ -73,49 +71,45 @@ taking (Spoils why) = refused (refusalNumber why)
 taking (Holds wanted at held) = accepted
 taking (Finishes at len) = accepted
 
--- the PDUs of a message from an offset on, each asked for at the offset that the one before gave
-unfoldable pub one : ℕ → List ℕ → ℕ → (ℕ → List Block) → Piece → List Block
-one number message at rest (Cut len next) =
-    block-of (getD (cutPdu number message at) 0 0 / 16) at (length (block number message at)) len
-    ∷ cond (ltb next (length message)) (rest next) []
-one number message at rest (NotCut why) = []
+-- calls of `cut`, from an offset on, as blocks
+abbrev pub blocksFrom : ℕ → List Cut → List Block
+blocksFrom at [] = []
+blocksFrom at (c ∷ cs) = block-of (getD (c .pdu) 0 0 / 16) at (c .next - at) (length (c .pdu)) ∷ blocksFrom (c .next) cs
 
-unfoldable pub all : ℕ → ℕ → List ℕ → ℕ → List Block
-all zero number message at = []
-all (suc more) number message at = one number message at (all more number message) (cutAt number message at (zeros PDU-MAX))
+-- a message is cut into blocks by calls of `cut`, on buffers of 1,600 bytes
+pub record CutInto (n : ℕ) (m : List ℕ) (blocks : List Block) : Type 0 where
+  pub cuts : List Cut
+  pub are-cut : CutByUs n m (λ at. zeros PDU-MAX) cuts
+  pub as-blocks : blocksFrom 0 cuts ≡ blocks
 
-unfoldable pub found : Star → Found
-found (reads pdu) = reading (readPdu true pdu)
-found (lists list) = answering (act 2 5 NoRoom Shut (createAct list [] 0) .answer)
-found (cuts number total) = pdus (all (suc total) number (zeros total) 0)
-found (begins len) = taking (took Idle (First len) 0)
+unfoldable pub CaseHolds : Case → Type 0
+CaseHolds (reads pdu found) = reading (readPdu true pdu) ≡ found
+CaseHolds (lists list found) = answering (act 2 5 NoRoom Shut (createAct list [] 0) .answer) ≡ found
+CaseHolds (cuts number total blocks) = CutInto number (zeros total) blocks
+CaseHolds (begins len found) = taking (took Idle (First len) 0) ≡ found
 
-pub record Case : Type 0 where
-  pub asked : Star
-  pub gives : Found
-
-infixl 20 _is_
-abbrev pub _is_ : Star → Found → Case
-_is_ asked gives = record { asked = asked; gives = gives }
-
--- "Numbers to hold", the starred ones
+-- "Numbers to hold", the starred ones. Thirteen are starred, and the last has two cases
 unfoldable pub starred : List Case
 starred =
-    (reads [] is refused 2)
-    ∷ (reads (zeros 1601) is refused 3)
-    ∷ (reads (0x60 ∷ 0x05 ∷ []) is refused 4)
-    ∷ (reads (0x33 ∷ 0x05 ∷ []) is refused 5)
-    ∷ (reads (0x40 ∷ 0x05 ∷ 0x00 ∷ []) is refused 5)
-    ∷ (lists [] is accepted)
-    ∷ (lists (0 ∷ []) is refused 6)
-    ∷ (cuts 5 1590 is pdus (block-of DATA 0 1590 1592 ∷ []))
-    ∷ (cuts 5 1591 is pdus (block-of DATA-FIRST 0 1591 1595 ∷ []))
-    ∷ (cuts 5 1596 is pdus (block-of DATA-FIRST 0 1596 1600 ∷ []))
-    ∷ (cuts 5 1597 is pdus (block-of DATA-FIRST 0 1596 1600 ∷ block-of DATA 1596 1 3 ∷ []))
-    ∷ (cuts 5 4096 is pdus (block-of DATA-FIRST 0 1596 1600 ∷ block-of DATA 1596 1598 1600 ∷ block-of DATA 3194 902 904 ∷ []))
-    ∷ (begins 4096 is accepted)
-    ∷ (begins 4097 is refused 11)
+    reads [] (refused 2)
+    ∷ reads (zeros 1601) (refused 3)
+    ∷ reads (0x60 ∷ 0x05 ∷ []) (refused 4)
+    ∷ reads (0x33 ∷ 0x05 ∷ []) (refused 5)
+    ∷ reads (0x40 ∷ 0x05 ∷ 0x00 ∷ []) (refused 5)
+    ∷ lists [] accepted
+    ∷ lists (0 ∷ []) (refused 6)
+    ∷ cuts 5 1590 (block-of DATA 0 1590 1592 ∷ [])
+    ∷ cuts 5 1591 (block-of DATA-FIRST 0 1591 1595 ∷ [])
+    ∷ cuts 5 1596 (block-of DATA-FIRST 0 1596 1600 ∷ [])
+    ∷ cuts 5 1597 (block-of DATA-FIRST 0 1596 1600 ∷ block-of DATA 1596 1 3 ∷ [])
+    ∷ cuts 5 4096 (block-of DATA-FIRST 0 1596 1600 ∷ block-of DATA 1596 1598 1600 ∷ block-of DATA 3194 902 904 ∷ [])
+    ∷ begins 4096 accepted
+    ∷ begins 4097 (refused 11)
     ∷ []
 
+abbrev pub AllHold : List Case → Type 0
+AllHold [] = Unit {0}
+AllHold (c ∷ cs) = CaseHolds c × AllHold cs
+
 unfoldable pub Starred : Type 0
-Starred = map (λ (c : Case). found (c .asked)) starred ≡ map (λ (c : Case). c .gives) starred
+Starred = AllHold starred

@@ -10,8 +10,8 @@ use lib.IntN.{ℤ}
 use lib.ListN.{length, length-append}
 use Rattle.reading.specs.declared.Charges.{Charges}
 use Rattle.numbers.specs.Numbers.{bytesOf, narrowest}
-use Rattle.numbers.specs.Status.{statusBytes, unsignedOf}
 use Rattle.numbers.proofs.Widths.{length-bytesOf, length-narrow, narrowest-le}
+use Rattle.numbers.proofs.Signs.{length-status}
 use Rattle.laying.specs.Laying.{headOf, createRequestBytes, createResponseBytes, dataFirstHead, dataFirstBytes, dataBytes, closeBytes, capsHead, capsRequestBytes, capsResponseBytes}
 
 pub length-head : (cmd middle number : ℕ) → length (headOf cmd middle number) ≡ 1 + narrowest number
@@ -25,10 +25,6 @@ head-le cmd middle number = let l = length-head cmd middle number in let w = nar
 pub length-create-request : (number class : ℕ) (name : List ℕ) → length (createRequestBytes number class name) ≡ 1 + narrowest number + length name + 1
 unfolding createRequestBytes
 length-create-request number class name = simp (length-append, length-head)
-
-pub length-status : (status : ℤ) → length (statusBytes status) ≡ 4
-unfolding statusBytes
-length-status status = length-bytesOf 4 (unsignedOf status)
 
 pub length-create-response : (number : ℕ) (status : ℤ) → length (createResponseBytes number status) ≡ 1 + narrowest number + 4
 unfolding createResponseBytes

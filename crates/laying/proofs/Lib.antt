@@ -1,2 +1,3 @@
 pub mod Lengths
 pub mod One
+pub mod Encoded

@@ -18,9 +18,9 @@ use mir.Facts.{toZ-pos, toZ-ofZ}
 use lib.ListN.{length}
 use lib.Seq.{take-all}
 use Rattle.lists.proofs.Cases.{lt-or-le, true-not-false}
-use Rattle.numbers.specs.Numbers.{little, bytesOf}
+use Rattle.numbers.specs.Numbers.{Bytes, little, bytesOf}
 use Rattle.numbers.specs.Status.{signedOf, unsignedOf, statusOf, statusBytes, isSuccess}
-use Rattle.numbers.proofs.Widths.{Bytes, little-below, little-bytesOf, bytesOf-little}
+use Rattle.numbers.proofs.Widths.{length-bytesOf, little-below, little-bytesOf, bytesOf-little}
 
 below : (k : ℕ) → negsuc 0 -ℤ pos k ≡ negsuc k
 below zero = refl
@@ -101,6 +101,11 @@ pub unsigned-below : (z : ℤ) → SFits w32 z → unsignedOf z < 4294967296
 unfolding unsignedOf
 unsigned-below (pos n) f = let h = f .sfits in omega arith
 unsigned-below (negsuc n) f = let h = f .sfits in omega arith
+
+-- a status is split into four bytes
+pub length-status : (status : ℤ) → length (statusBytes status) ≡ 4
+unfolding statusBytes
+length-status status = length-bytesOf 4 (unsignedOf status)
 
 -- split and built again
 pub status-built : (z : ℤ) → SFits w32 z → statusOf (statusBytes z) ≡ z

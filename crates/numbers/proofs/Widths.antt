@@ -13,7 +13,7 @@ use lib.Seq.{take-all, take-at, drop-at, getD-drop}
 use Rattle.lists.specs.Bytes.{laid, zeros}
 use Rattle.lists.proofs.Cases.{lt-or-le, choice}
 use Rattle.lists.proofs.Laid.{laid-past, laid-head}
-use Rattle.numbers.specs.Numbers.{little, bytesOf, valueOf, valueAt, widthOf, codeFor, narrowest, narrowBytes}
+use Rattle.numbers.specs.Numbers.{Bytes, NUMBERS, little, bytesOf, valueOf, valueAt, widthOf, codeFor, narrowest, narrowBytes}
 
 -- ---- lengths and bounds
 
@@ -46,7 +46,7 @@ unfolding narrowBytes
 length-narrow v = length-bytesOf (narrowest v) v
 
 -- the narrowest width holds the value
-pub narrow-holds : (v : ℕ) → v < 4294967296 → v < 256 ^ narrowest v
+pub narrow-holds : (v : ℕ) → v < NUMBERS → v < 256 ^ narrowest v
 unfolding narrowest widthOf codeFor
 narrow-holds v h =
     ⊎-elim
@@ -58,9 +58,36 @@ narrow-holds v h =
     (lt-or-le v 65536))
     (lt-or-le v 256)
 
--- bytes are below 256
-abbrev pub Bytes : List ℕ → Type 0
-Bytes l = (i : ℕ) → getD l i 0 < 256
+-- no width that holds it is narrower
+pub is-narrowest : (v code : ℕ) → code ≤ 2 → v < 256 ^ widthOf code → (codeFor v ≤ code) × (narrowest v ≤ widthOf code)
+unfolding narrowest codeFor widthOf
+is-narrowest v code c h =
+    ⊎-elim
+    (λ (a : v < 256). simp (lt-ltb v 256 a) (omega arith, one code c))
+    (λ (a : 256 ≤ v).
+    ⊎-elim
+    (λ (b : v < 65536). simp (le-ltb v 256 a, lt-ltb v 65536 b) (two code c h a))
+    (λ (b : 65536 ≤ v). simp (le-ltb v 256 a, le-ltb v 65536 b) (four code c h b))
+    (lt-or-le v 65536))
+    (lt-or-le v 256)
+  where
+    one : (code : ℕ) → code ≤ 2 → 1 ≤ widthOf code
+    one zero c = lit≤ tt
+    one (suc zero) c = lit≤ tt
+    one (suc (suc zero)) c = lit≤ tt
+    one (suc (suc (suc k))) c = absurd (omega arith)
+
+    two : (code : ℕ) → code ≤ 2 → v < 256 ^ widthOf code → 256 ≤ v → (1 ≤ code) × (2 ≤ widthOf code)
+    two zero c h a = absurd (omega arith)
+    two (suc zero) c h a = (lit≤ tt, lit≤ tt)
+    two (suc (suc zero)) c h a = (lit≤ tt, lit≤ tt)
+    two (suc (suc (suc k))) c h a = absurd (omega arith)
+
+    four : (code : ℕ) → code ≤ 2 → v < 256 ^ widthOf code → 65536 ≤ v → (2 ≤ code) × (4 ≤ widthOf code)
+    four zero c h a = absurd (omega arith)
+    four (suc zero) c h a = absurd (omega arith)
+    four (suc (suc zero)) c h a = (lit≤ tt, lit≤ tt)
+    four (suc (suc (suc k))) c h a = absurd (omega arith)
 
 pub little-below : (n : ℕ) (bs : List ℕ) → Bytes bs → little (take n bs) < 256 ^ n
 unfolding little

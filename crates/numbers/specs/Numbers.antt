@@ -1,9 +1,17 @@
 -- Numbers in bytes. "Numbers are little-endian. A width code 0, 1, 2 means 1, 2, 4 bytes; 3 is invalid."
-use Prim.Native.Nat.{ℕ, zero, suc, _+_, _*_, _/_, _%_}
+use Prim.Native.Nat.{ℕ, zero, suc, _+_, _*_, _/_, _%_, _<_}
 use mathlib.Core.Bool.{cond}
 use mathlib.Core.List.{List, [], _∷_}
 use lib.Dec.{ltb, eqb}
-use lib.ListN.{take, drop}
+use lib.ListN.{take, drop, getD}
+
+-- each number of a list is a byte
+abbrev pub Bytes : List ℕ → Type 0
+Bytes l = (i : ℕ) → getD l i 0 < 256
+
+-- four bytes hold the numbers below this
+abbrev pub NUMBERS : ℕ
+NUMBERS = 4294967296
 
 -- the number that bytes make, the lowest first
 unfoldable pub little : List ℕ → ℕ

@@ -2,3 +2,4 @@ pub mod Sizes
 pub mod Commands
 pub mod Statuses
 pub mod Refusals
+pub mod Rows

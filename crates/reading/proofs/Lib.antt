@@ -1,3 +1,5 @@
 pub mod Placed
-pub mod Values
+pub mod Heads
+pub mod Grammar
+pub mod Layouts
 pub mod One

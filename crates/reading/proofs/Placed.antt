@@ -11,15 +11,18 @@ use lib.Dec.{eqb, ltb, leb}
 use lib.ListN.{length, drop, getD}
 use Rattle.paper.specs.Sizes.{PDU-MAX}
 use Rattle.paper.specs.declared.Refusal.{Refusal}
-use Rattle.paper.specs.declared.Refusal.the-variants.{WrongSize, CutShort, TooLong, NoCommand, BadField, BadList, WrongTime, NotOpen, AlreadyOpen, StillJoining, OverLimit, PastLength, IsSpoiled, NoStart}
+use Rattle.paper.specs.declared.Refusal.the-variants.{WrongSize, CutShort, TooLong, NoCommand, BadField, BadList, WrongTime, NotOpen,
+    AlreadyOpen, StillJoining, OverLimit, PastLength, IsSpoiled, NoStart}
 use Rattle.paper.specs.Commands.{CREATE, DATA-FIRST, DATA, CAPABILITIES}
 use Rattle.lists.specs.Places.{place}
 use Rattle.lists.specs.Bytes.{isZero}
 use Rattle.lists.proofs.Cases.{choice}
 use Rattle.numbers.specs.Numbers.{valueAt, widthOf}
-use Rattle.reading.specs.Reading.{readPdu, byCommand, numbered, badLengthWidth, afterNumber, createRequest, namedFor, createResponse, dataFirst, closing, capabilities, byVersion, charged}
+use Rattle.reading.specs.Reading.{readPdu, byCommand, numbered, badLengthWidth, afterNumber, createRequest, namedFor,
+    createResponse, dataFirst, closing, capabilities, byVersion, charged}
 use Rattle.reading.specs.declared.Pdu.{Pdu}
-use Rattle.reading.specs.declared.Pdu.the-variants.{CreateRequest, CreateResponse, DataFirst, Data, Close, CapsRequest, CapsResponse, Refused}
+use Rattle.reading.specs.declared.Pdu.the-variants.{CreateRequest, CreateResponse, DataFirst, Data, Close, CapsRequest,
+    CapsResponse, Refused}
 
 -- the refusals that reading gives
 abbrev pub ReadingRefusal : Refusal → Type 0
@@ -71,7 +74,9 @@ module _ (pdu : List ℕ) where
   unfolding closing
   closed number at = choice (Placed pdu) (ltb at (length pdu)) (λ e. tt) (λ e. tt)
 
-  after : (fromServer : Bool) (cmd middle number at : ℕ) → at ≤ length pdu → middle ≤ 3 → Placed pdu (afterNumber fromServer pdu cmd middle number at)
+  after :
+      (fromServer : Bool) (cmd middle number at : ℕ) → at ≤ length pdu → middle ≤ 3
+      → Placed pdu (afterNumber fromServer pdu cmd middle number at)
   unfolding afterNumber createRequest
   after fromServer cmd middle number at h k =
       choice (Placed pdu) (eqb cmd CREATE)

@@ -1,2 +1,4 @@
 pub mod Reading
 pub mod Said
+pub mod Grammar
+pub mod Layouts

@@ -1,7 +1,7 @@
--- What reading a PDU finds: "Bytes of a PDU", and its part of "Refusal numbers":
---   "Reading: empty 2, too long 3, then Cmd, cbId, the Length width, then fields from left to right, each ended (2)
---   before its value is judged (5); bytes left over last."
--- Each definition is a list of refusals from top to bottom, of which the first that holds is given, and then what is found.
+-- What reading a PDU finds: "Bytes of a PDU", and its part of "Refusal numbers": "Reading: empty 2, too long 3,
+-- then Cmd, cbId, the Length width, then fields from left to right, each ended (2) before its value is judged (5);
+-- bytes left over last." Each definition is a list of refusals from top to bottom, of which the first that holds is
+-- given, and then what is found.
 use Prim.Native.Nat.{ℕ, _+_, _-_, _/_, _%_}
 use mathlib.Core.Bool.{Bool, cond, not, _&&_}
 use mathlib.Core.List.{List}
@@ -15,14 +15,17 @@ use Rattle.lists.specs.Places.{place}
 use Rattle.lists.specs.Bytes.{isZero}
 use Rattle.numbers.specs.Numbers.{valueAt, widthOf}
 use Rattle.numbers.specs.Status.{statusOf}
+use Rattle.reading.specs.declared.Charges.{Charges}
 use Rattle.reading.specs.declared.Pdu.{Pdu}
-use Rattle.reading.specs.declared.Pdu.the-variants.{CreateRequest, CreateResponse, DataFirst, Data, Close, CapsRequest, CapsResponse, Refused}
+use Rattle.reading.specs.declared.Pdu.the-variants.{CreateRequest, CreateResponse, DataFirst, Data, Close,
+    CapsRequest, CapsResponse, Refused}
 
 -- the refusal where the test holds, and else the rest
 abbrev pub refuse : Refusal → Bool → Pdu → Pdu
 refuse why test rest = cond test (Refused why) rest
 
--- "number; name; one zero byte, the last of the PDU": the name's length is the place of the first zero behind the number
+-- "number; name; one zero byte, the last of the PDU": the name's length is the place of the first zero behind the
+-- number
 unfoldable pub namedFor : ℕ → ℕ → ℕ → ℕ → ℕ → Pdu
 namedFor left number class at len =
     refuse CutShort (leb left len)
@@ -69,6 +72,11 @@ numbered fromServer pdu cmd middle cbId =
     (refuse CutShort (ltb (length pdu) (1 + widthOf cbId))
     (afterNumber fromServer pdu cmd middle (valueAt pdu 1 (widthOf cbId)) (1 + widthOf cbId))))
 
+-- the four charges
+abbrev pub chargesAt : List ℕ → Charges
+chargesAt pdu =
+    record { class0 = valueAt pdu 4 2; class1 = valueAt pdu 6 2; class2 = valueAt pdu 8 2; class3 = valueAt pdu 10 2 }
+
 -- "for versions 2 and 3 four charges of 2 bytes"; version 1 is read with charges of 0
 unfoldable pub charged : List ℕ → ℕ → Pdu
 charged pdu version =
@@ -77,7 +85,7 @@ charged pdu version =
     (CapsRequest version (record { class0 = 0; class1 = 0; class2 = 0; class3 = 0 })))
     (refuse CutShort (ltb (length pdu) 12)
     (refuse BadField (ltb 12 (length pdu))
-    (CapsRequest version (record { class0 = valueAt pdu 4 2; class1 = valueAt pdu 6 2; class2 = valueAt pdu 8 2; class3 = valueAt pdu 10 2 }))))
+    (CapsRequest version (chargesAt pdu))))
 
 -- "Version 2 bytes, 1 to 3"
 unfoldable pub byVersion : Bool → List ℕ → ℕ → Pdu

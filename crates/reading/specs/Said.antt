@@ -7,7 +7,8 @@ use Rattle.paper.specs.Commands.{CREATE, DATA-FIRST, DATA, CLOSE, CAPABILITIES}
 use Rattle.paper.specs.Refusals.{refusalNumber}
 use Rattle.reading.specs.declared.Place.{Place}
 use Rattle.reading.specs.declared.Pdu.{Pdu}
-use Rattle.reading.specs.declared.Pdu.the-variants.{CreateRequest, CreateResponse, DataFirst, Data, Close, CapsRequest, CapsResponse, Refused}
+use Rattle.reading.specs.declared.Pdu.the-variants.{CreateRequest, CreateResponse, DataFirst, Data, Close,
+    CapsRequest, CapsResponse, Refused}
 
 -- the paper's number: Cmd, or the refusal's
 abbrev pub paperNumber : Pdu → ℕ

@@ -19,14 +19,16 @@ use Rattle.channel.specs.declared.Offer.the-variants.{First, More}
 use Rattle.channel.specs.declared.Took.{Took}
 use Rattle.channel.specs.declared.Took.the-variants.{Bars, Spoils, Holds, Finishes}
 use Rattle.channel.specs.Stages.{added, begun, took}
-use Rattle.channel.specs.Channel.{Act, BadCreate, Create, Bring, Closing, LocalClose, View, Shut, Open, Room, NoRoom, Spare, classAt, openedRecord, restaged, opening, stageAfter, partAfter, landed, act}
+use Rattle.channel.specs.Channel.{Act, BadCreate, Create, Bring, Closing, LocalClose, View, Shut, Open, Room, NoRoom, Spare, classAt,
+    openedRecord, restaged, opening, stageAfter, partAfter, landed, act}
 use Rattle.table.specs.Table.{holds, recordAt, numberPlace}
 use Rattle.table.specs.Sound.{goodStage}
 use Rattle.table.proofs.Twice.{holds-own}
 use Rattle.table.proofs.Records.{number-holds}
 use Rattle.table.proofs.Soundness.{sound-says, joining-bounds, joining-good}
 use Rattle.client.specs.State.{State, view}
-use Rattle.steps.proofs.Frame.{Steady, Fine, Fits, opened}
+use Rattle.steps.proofs.Frame.{Fine, Fits, opened}
+use Rattle.steps.specs.States.{Steady, FineAct}
 
 -- ---- what data comes to
 
@@ -54,14 +56,6 @@ took-good Spoiled offer n g = tt
 
 -- ---- what the rules make
 
--- a class of two bits: what reading makes sure of
-abbrev pub FineAct : Act → Type 0
-FineAct BadCreate = Unit {0}
-FineAct (Create listed pri) = pri ≤ 3
-FineAct (Bring offer bytes) = Unit {0}
-FineAct Closing = Unit {0}
-FineAct LocalClose = Unit {0}
-
 -- an open channel's record holds its number, and may stand in a sound table
 abbrev pub Known : ℕ → View → Type 0
 Known n Shut = Unit {0}
@@ -85,7 +79,9 @@ unfolding opening openedRecord goodStage
 opening-fits level n pri NoRoom h = tt
 opening-fits level n pri (Spare p) h = (holds-own n (openedRecord level n pri) refl refl, (refl, record { class = class-fine level pri h; stage = refl }))
 
-landed-fits : (n : ℕ) (room : Room) (r : Record) (b bytes : List ℕ) → holds n r ≡ true → Fine r → (t : Took) → GoodTook t → Fits n room (Open r b) (landed n r b bytes t .view)
+landed-fits :
+    (n : ℕ) (room : Room) (r : Record) (b bytes : List ℕ) → holds n r ≡ true → Fine r → (t : Took) → GoodTook t
+    → Fits n room (Open r b) (landed n r b bytes t .view)
 unfolding landed stageAfter partAfter restaged goodStage
 landed-fits n room r b bytes h f (Bars why) g = (h, (refl, f))
 landed-fits n room r b bytes h f (Spoils why) g = (sym (other-stage n r Spoiled) ∙ h, (refl, restaged-fine r Spoiled f refl))

@@ -1,5 +1,5 @@
--- Every state that calls reach from Start is calm: sixteen records, a store of its size, a sound table, and the parts of free
--- records zero. So refusal 1 for an unsound table never comes up there.
+-- Every state that calls reach from Start is calm: sixteen records, a store of its size, a sound table, and free records and
+-- their parts as Start made them. So refusal 1 for an unsound table never comes up there.
 -- Assumes nothing.
 use mathlib.Core.Path.{_≡_, refl}
 use mathlib.Core.Logic.{_⊎_, inl, inr, ⊎-elim}
@@ -16,7 +16,8 @@ use Rattle.store.proofs.Parts.{zeros-part}
 use Rattle.reading.specs.Reading.{readPdu}
 use Rattle.reading.specs.Said.{bytesAt}
 use Rattle.reading.specs.declared.Pdu.{Pdu}
-use Rattle.reading.specs.declared.Pdu.the-variants.{CreateRequest, CreateResponse, DataFirst, Data, Close, CapsRequest, CapsResponse, Refused}
+use Rattle.reading.specs.declared.Pdu.the-variants.{CreateRequest, CreateResponse, DataFirst, Data, Close, CapsRequest, CapsResponse,
+    Refused}
 use Rattle.reading.proofs.Placed.{Placed, placed}
 use Rattle.listeners.specs.Listeners.{goodList}
 use Rattle.channel.specs.Channel.{LocalClose}
@@ -29,19 +30,9 @@ use Rattle.client.specs.Events.{Event, Unreadable, Capabilities, Of, createAct,
 use Rattle.client.specs.Client.{readied, stepped, badCall, wholeOf, guarded, received, locallyClosed}
 use Rattle.client.proofs.Steps.{too-early, made-ready}
 use Rattle.client.proofs.Calls.{proper, refuses, passes}
-use Rattle.steps.proofs.Frame.{Steady, FreePartsAreZero}
-use Rattle.steps.proofs.Acts.{FineAct}
-use Rattle.steps.proofs.Channels.{FineEvent, step-steady, step-clear}
-
--- sixteen records, a store of its size, a sound table
-pub record Sane (st : State) : Type 0 where
-  pub rows : length (st .table .records) ≡ PARTS
-  pub bytes : length (st .store) ≡ STORE
-  pub sound : soundTable (st .table) ≡ true
-
-pub record Calm (st : State) : Type 0 where
-  pub sane : Sane st
-  pub zero : FreePartsAreZero st
+use Rattle.steps.specs.States.{Steady, FreePartsAreZero, FreeRecordsAreBlank, Sane, Calm, FineAct, FineEvent}
+use Rattle.steps.proofs.Channels.{step-steady, step-clear}
+use Rattle.steps.proofs.Blank.{blank-start, step-blank}
 
 -- a sane state that is ready is steady, and the other way
 pub sane-steady : (st : State) → Sane st → st .table .ready ≡ true → Steady st
@@ -56,14 +47,17 @@ unfolding emptyTable PARTS
 empty-rows = refl
 
 pub calm-start : Calm (stateOf emptyTable (zeros STORE))
-calm-start = record { sane = record { rows = empty-rows; bytes = length-zeros STORE; sound = sound-empty }; zero = λ k l u. zeros-part k l }
+calm-start = record { sane = record { rows = empty-rows; bytes = length-zeros STORE; sound = sound-empty }; zero = λ k l u. zeros-part k l; blank = λ k l u. blank-start k l }
 
 -- the smaller of a version from 1 on and 2
 level-good : (version : ℕ) → 1 ≤ version → (min version 2 ≡ 1) ⊎ (min version 2 ≡ 2)
 level-good version h = ⊎-elim (λ (l : version < 2). inl (omega arith)) (λ (l : 2 ≤ version). inr (omega arith)) (lt-or-le version 2)
 
 -- what holds of the next state in time and out of time holds of it
-by-time : (P : State → Type 0) (st : State) (e : Event) → FineEvent e → P st → ((version : ℕ) → 1 ≤ version → st .table .ready ≡ false → P (readied st version .state)) → (st .table .ready ≡ true → P (stepped st e .state)) → P (stepped st e .state)
+by-time :
+    (P : State → Type 0) (st : State) (e : Event) → FineEvent e → P st
+    → ((version : ℕ) → 1 ≤ version → st .table .ready ≡ false → P (readied st version .state))
+    → (st .table .ready ≡ true → P (stepped st e .state)) → P (stepped st e .state)
 unfolding stepped
 by-time P st (Unreadable why) z p c r = p
 by-time P st (Capabilities version) z p c r = go (st .table .ready) refl
@@ -88,7 +82,12 @@ sane-step st c e z =
 -- and a calm one calm
 pub calm-step : (st : State) → Calm st → (e : Event) → FineEvent e → Calm (stepped st e .state)
 unfolding readied recordAt
-calm-step st c e z = record { sane = sane-step st (c .sane) e z; zero = by-time FreePartsAreZero st e z (c .zero) (λ version h r. c .zero) (λ r. step-clear st (sane-steady st (c .sane) r) e z (c .zero)) }
+calm-step st c e z =
+    record {
+      sane = sane-step st (c .sane) e z;
+      zero = by-time FreePartsAreZero st e z (c .zero) (λ version h r. c .zero) (λ r. step-clear st (sane-steady st (c .sane) r) e z (c .zero));
+      blank = by-time FreeRecordsAreBlank st e z (c .blank) (λ version h r. c .blank) (λ r. step-blank st (sane-steady st (c .sane) r) (c .blank) e z);
+    }
 
 -- ---- what is read in a PDU is fine
 
@@ -113,19 +112,27 @@ fine-pdu list pdu = fine-read list pdu (readPdu true pdu) (placed pdu true)
 -- ---- calls
 
 -- the table after a call
-guarded-sound : (t : Table) (store reply : List ℕ) (e : Event) → FineEvent e → length (t .records) ≡ PARTS → soundTable t ≡ true → soundTable (guarded t store reply (stepped (stateOf t store) e) .result .table) ≡ true
+guarded-sound :
+    (t : Table) (store reply : List ℕ) (e : Event) → FineEvent e → length (t .records) ≡ PARTS → soundTable t ≡ true
+    → soundTable (guarded t store reply (stepped (stateOf t store) e) .result .table) ≡ true
 unfolding wholeOf
 guarded-sound t store reply e z rows sound = go (badCall t (length store) (length reply)) refl
   where
-    go : (b : Bool) → badCall t (length store) (length reply) ≡ b → soundTable (guarded t store reply (stepped (stateOf t store) e) .result .table) ≡ true
+    go :
+        (b : Bool) → badCall t (length store) (length reply) ≡ b
+        → soundTable (guarded t store reply (stepped (stateOf t store) e) .result .table) ≡ true
     go true b = rw (refuses t store reply (stepped (stateOf t store) e) b) sound
     go false b = rw (passes t store reply (stepped (stateOf t store) e) b) (sane-step (stateOf t store) (record { rows = rows; bytes = proper t (length store) (length reply) b .store-size; sound = sound }) e z .sound)
 
 -- after every call from a sound table the table is sound
-pub receive-sound : (t : Table) (store list pdu reply : List ℕ) → length (t .records) ≡ PARTS → soundTable t ≡ true → soundTable (received t store list pdu reply .result .table) ≡ true
+pub receive-sound :
+    (t : Table) (store list pdu reply : List ℕ) → length (t .records) ≡ PARTS → soundTable t ≡ true
+    → soundTable (received t store list pdu reply .result .table) ≡ true
 unfolding received
 receive-sound t store list pdu reply rows sound = guarded-sound t store reply (eventOf list pdu (readPdu true pdu)) (fine-pdu list pdu) rows sound
 
-pub local-close-sound : (t : Table) (store : List ℕ) (n : ℕ) (reply : List ℕ) → length (t .records) ≡ PARTS → soundTable t ≡ true → soundTable (locallyClosed t store n reply .result .table) ≡ true
+pub local-close-sound :
+    (t : Table) (store : List ℕ) (n : ℕ) (reply : List ℕ) → length (t .records) ≡ PARTS → soundTable t ≡ true
+    → soundTable (locallyClosed t store n reply .result .table) ≡ true
 unfolding locallyClosed
 local-close-sound t store n reply rows sound = guarded-sound t store reply (Of n LocalClose) tt rows sound

@@ -12,18 +12,9 @@ use Rattle.client.specs.State.{State, view, roomIn, save}
 use Rattle.client.specs.Events.{Event, Unreadable, Capabilities, Of}
 use Rattle.client.specs.Client.{Stepped, finished, stepped}
 use Rattle.client.proofs.Steps.{in-time, too-late}
-use Rattle.steps.proofs.Frame.{Steady, FreePartsAreZero, Fits, save-own, save-other, save-steady, save-clear}
-use Rattle.steps.proofs.Acts.{FineAct, act-fits, view-known}
-
--- what reading makes sure of an event
-abbrev pub FineEvent : Event → Type 0
-FineEvent (Unreadable why) = Unit {0}
-FineEvent (Capabilities version) = 1 ≤ version
-FineEvent (Of n a) = FineAct a
-
--- what the rules say of an event of the channel with number n
-abbrev pub ruled : ℕ → State → Act → Did
-ruled n st a = act (st .table .level) n (roomIn st) (view n st) a
+use Rattle.steps.proofs.Frame.{Fits, save-own, save-other, save-steady, save-clear}
+use Rattle.steps.specs.States.{Steady, FreePartsAreZero, FineEvent, FineAct, ruled, isOf}
+use Rattle.steps.proofs.Acts.{act-fits, view-known}
 
 module _ (st : State) (g : Steady st) where
   pub ruled-fits : (n : ℕ) (a : Act) → FineAct a → Fits n (roomIn st) (view n st) (ruled n st a .view)
@@ -57,14 +48,9 @@ module _ (st : State) (g : Steady st) where
   pub step-caps : (version : ℕ) → stepped st (Capabilities version) .state ≡ st
   step-caps version = ap (λ (s : Stepped). s .state) (too-late st version (g .ready))
 
--- whether an event is of the channel with number n
-abbrev pub isOf : ℕ → Event → Bool
-isOf n (Unreadable why) = false
-isOf n (Capabilities version) = false
-isOf n (Of m a) = eqb m n
-
 -- every other channel is untouched
-pub step-other : (n : ℕ) (st : State) → Steady st → (e : Event) → FineEvent e → isOf n e ≡ false → view n (stepped st e .state) ≡ view n st
+pub step-other :
+    (n : ℕ) (st : State) → Steady st → (e : Event) → FineEvent e → isOf n e ≡ false → view n (stepped st e .state) ≡ view n st
 unfolding stepped
 step-other n st g (Unreadable why) z h = refl
 step-other n st g (Capabilities version) z h = ap (view n) (step-caps st g version)

@@ -26,17 +26,7 @@ use Rattle.store.specs.Parts.{part, withPart}
 use Rattle.store.proofs.Parts.{there, inside, length-with, length-part, part-same, part-other}
 use Rattle.client.specs.State.{State, viewAt, view, roomAt, roomIn, wrote, save}
 use Rattle.client.proofs.Steps.{view-open, view-shut}
-
--- a state that a connection is in once it is ready: sixteen records, a store of its size, a sound table
-pub record Steady (st : State) : Type 0 where
-  pub rows : length (st .table .records) ≡ PARTS
-  pub bytes : length (st .store) ≡ STORE
-  pub sound : soundTable (st .table) ≡ true
-  pub ready : st .table .ready ≡ true
-
--- "the parts of free records are zero"
-abbrev pub FreePartsAreZero : State → Type 0
-FreePartsAreZero st = (k : ℕ) → k < PARTS → recordAt (st .table) k .taken ≡ false → part (st .store) k ≡ zeros PART
+use Rattle.steps.specs.States.{Steady, FreePartsAreZero}
 
 -- a record that may stand in a sound table
 pub record Fine (r : Record) : Type 0 where
@@ -46,7 +36,8 @@ pub record Fine (r : Record) : Type 0 where
 -- ---- a record and its part written at a place
 
 -- a number is found where it was
-place-kept : (m : ℕ) (t : Table) (k : ℕ) (r : Record) → holds m r ≡ holds m (recordAt t k) → numberPlace m (withRecord t k r) ≡ numberPlace m t
+place-kept :
+    (m : ℕ) (t : Table) (k : ℕ) (r : Record) → holds m r ≡ holds m (recordAt t k) → numberPlace m (withRecord t k r) ≡ numberPlace m t
 unfolding numberPlace withRecord recordAt
 place-kept m t k r e = place-set (holds m) (t .records) k r blank e
 
@@ -65,7 +56,9 @@ module _ (st : State) (g : Steady st) (k : ℕ) (r : Record) (bytes : List ℕ) 
   unfolding wrote
   bytes-kept = length-with (st .store) k bytes ∙ g .bytes
 
-  pub steady-write : Fine r → (r .taken ≡ true → (i : ℕ) → (i ≡ k → ⊥) → holds (r .number) (recordAt (st .table) i) ≡ false) → Steady (wrote st k r bytes)
+  pub steady-write :
+      Fine r → (r .taken ≡ true → (i : ℕ) → (i ≡ k → ⊥) → holds (r .number) (recordAt (st .table) i) ≡ false)
+      → Steady (wrote st k r bytes)
   unfolding wrote withRecord
   steady-write f alone = record { rows = rows-kept; bytes = bytes-kept; sound = sound-with (st .table) k r (g .sound) (g .ready) (f .class) (f .stage) alone; ready = g .ready }
 
@@ -108,15 +101,21 @@ module _ (st : State) (g : Steady st) (k : ℕ) (r : Record) (bytes : List ℕ) 
 
 -- ---- what a view and a room tell
 
-view-at : (st : State) (k : ℕ) (r : Record) (b : List ℕ) → viewAt st k ≡ Open r b → (k < PARTS) × ((recordAt (st .table) k ≡ r) × (part (st .store) k ≡ b))
+view-at :
+    (st : State) (k : ℕ) (r : Record) (b : List ℕ) → viewAt st k ≡ Open r b
+    → (k < PARTS) × ((recordAt (st .table) k ≡ r) × (part (st .store) k ≡ b))
 unfolding viewAt
 view-at st k r b = go (ltb k PARTS) refl
   where
-    go : (t : Bool) → ltb k PARTS ≡ t → cond t (Open (recordAt (st .table) k) (part (st .store) k)) Shut ≡ Open r b → (k < PARTS) × ((recordAt (st .table) k ≡ r) × (part (st .store) k ≡ b))
+    go :
+        (t : Bool) → ltb k PARTS ≡ t → cond t (Open (recordAt (st .table) k) (part (st .store) k)) Shut ≡ Open r b
+        → (k < PARTS) × ((recordAt (st .table) k ≡ r) × (part (st .store) k ≡ b))
     go true e h = (ltb-true k PARTS e, ((cc), (cc)))
     go false e h = let z : _≡_ {A = ℕ} 0 1 = cc in absurd (omega arith)
 
-pub opened : (n : ℕ) (st : State) (r : Record) (b : List ℕ) → view n st ≡ Open r b → (numberPlace n (st .table) < PARTS) × ((recordAt (st .table) (numberPlace n (st .table)) ≡ r) × (part (st .store) (numberPlace n (st .table)) ≡ b))
+pub opened :
+    (n : ℕ) (st : State) (r : Record) (b : List ℕ) → view n st ≡ Open r b
+    → (numberPlace n (st .table) < PARTS) × ((recordAt (st .table) (numberPlace n (st .table)) ≡ r) × (part (st .store) (numberPlace n (st .table)) ≡ b))
 unfolding view
 opened n st r b h = view-at st (numberPlace n (st .table)) r b h
 
@@ -140,7 +139,8 @@ room-at st k p = go (ltb k PARTS) refl
     go true e h = (ltb-true k PARTS e, (cc))
     go false e h = let z : _≡_ {A = ℕ} 0 1 = cc in absurd (omega arith)
 
-pub spare : (st : State) (p : List ℕ) → roomIn st ≡ Spare p → (freePlace (st .table) < PARTS) × (part (st .store) (freePlace (st .table)) ≡ p)
+pub spare :
+    (st : State) (p : List ℕ) → roomIn st ≡ Spare p → (freePlace (st .table) < PARTS) × (part (st .store) (freePlace (st .table)) ≡ p)
 unfolding roomIn
 spare st p h = room-at st (freePlace (st .table)) p h
 

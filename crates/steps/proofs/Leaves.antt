@@ -1,20 +1,27 @@
--- What an event leaves: a refusal changes nothing, but that 10, 11 and 12 turn the one record's stage to spoiled; no byte outside
--- the part of the channel concerned changes; a freed record is as Start made it; and the list never touches an open channel.
+-- What a refused call leaves: nothing is sent, no byte changes, and the table is as it was, but that 10, 11 and 12 turn the stage of the
+-- one record that holds the number to spoiled. The rules of one channel say so (`act-quiet`, `act-concern`); the step puts it back.
 -- Assumes nothing.
 use mathlib.Core.Path.{_≡_, refl, sym, ap, _∙_}
 use mathlib.Core.Bool.{Bool, true, false}
 use mathlib.Core.Logic.{_≢_}
 use mathlib.Core.List.{List, []}
-use Prim.Native.Nat.{ℕ, _+_, _<_}
+use Prim.Native.Nat.{ℕ, _+_}
 use native.Mathlib.Omega.{arith}
 use borrow.Author.Tests.{eq-eqb, ne-eqb}
 use lib.Dec.{eqb, ltb}
 use lib.ListN.{length}
 use Rattle.paper.specs.Sizes.{PARTS, STORE, MESSAGE-MAX}
+use Rattle.paper.specs.Refusals.{refusalNumber}
 use Rattle.paper.specs.declared.Refusal.{Refusal}
-use Rattle.paper.specs.declared.Refusal.the-variants.{WrongSize, CutShort, TooLong, NoCommand, BadField, BadList, WrongTime, NotOpen, AlreadyOpen, StillJoining, OverLimit, PastLength, IsSpoiled, NoStart}
+use Rattle.paper.specs.declared.Refusal.the-variants.{WrongSize, CutShort, TooLong, NoCommand, BadField, BadList, WrongTime, NotOpen,
+    AlreadyOpen, StillJoining, OverLimit, PastLength, IsSpoiled, NoStart}
 use Rattle.lists.specs.Bytes.{laid, zeros}
-use Rattle.lists.proofs.Cases.{choice}
+use Rattle.lists.proofs.Cases.{choice, true-not-false}
+use Rattle.reading.specs.Reading.{readPdu}
+use Rattle.reading.specs.declared.Pdu.{Pdu}
+use Rattle.reading.specs.declared.Pdu.the-variants.{CreateRequest, CreateResponse, DataFirst, Data, Close, CapsRequest, CapsResponse,
+    Refused as NotRead}
+use Rattle.reading.proofs.Placed.{ReadingRefusal, Placed, placed}
 use Rattle.channel.specs.declared.Stage.{Stage}
 use Rattle.channel.specs.declared.Stage.the-variants.{Idle, Joining, Spoiled}
 use Rattle.channel.specs.declared.Record.{Record}
@@ -26,233 +33,295 @@ use Rattle.channel.specs.declared.Answer.the-variants.{Refused}
 use Rattle.channel.specs.declared.Took.{Took}
 use Rattle.channel.specs.declared.Took.the-variants.{Bars, Spoils, Holds, Finishes}
 use Rattle.channel.specs.Stages.{added, begun, took}
+use Rattle.channel.specs.Channel.{Act, BadCreate, Create, Bring, Closing, LocalClose, View, Shut, Open, Room, NoRoom, Spare, restaged,
+    opening, stageAfter, partAfter, answerTo, landed, act}
+use Rattle.table.specs.declared.Table.{Table}
 use Rattle.table.specs.Table.{emptyTable, numberPlace, recordAt, withRecord}
 use Rattle.table.specs.Sound.{soundTable}
-use Rattle.table.specs.declared.Table.{Table}
-use Rattle.reading.specs.Reading.{readPdu}
-use Rattle.reading.specs.declared.Pdu.{Pdu}
-use Rattle.reading.specs.declared.Pdu.the-variants.{CreateRequest, CreateResponse, DataFirst, Data, Close, CapsRequest, CapsResponse, Refused as NotRead}
-use Rattle.reading.proofs.Placed.{ReadingRefusal, Placed, placed}
-use Rattle.store.specs.Parts.{part}
-use Rattle.client.specs.declared.Begun.the-variants.{Done, Refused as NotBegun}
 use Rattle.client.specs.State.{State, stateOf, view, roomIn, wrote, save}
 use Rattle.client.specs.Events.{Event, Unreadable, Capabilities, Of, eventOf, eventFor, actFor, carriedBy}
-use Rattle.client.specs.Client.{Stepped, refused, finished, readied, stepped, badCall, Whole, wholeOf, guarded, received, locallyClosed, started, storeStarted}
-use Rattle.client.proofs.Calls.{Proper, proper, refuses, passes}
+use Rattle.client.specs.Client.{Stepped, refused, finished, readied, stepped, badCall, Whole, wholeOf, guarded, received, locallyClosed,
+    started, storeStarted}
+use Rattle.client.proofs.Calls.{proper, refuses, passes}
 use Rattle.client.proofs.Steps.{own-part, save-own, too-early, in-time, too-late, made-ready}
-use Rattle.steps.proofs.Frame.{Steady, opened}
-use Rattle.channel.specs.Channel.{Act, BadCreate, Create, Bring, Closing, LocalClose, View, Shut, Open, Room, NoRoom, Spare, restaged, opening, stageAfter, partAfter, answerTo, landed, act}
+use Rattle.steps.specs.States.{Steady}
+use Rattle.steps.specs.Refused.{spoils, concerned, leftBy, IsOpen, RefusedCall}
+use Rattle.steps.proofs.Frame.{opened}
 
--- "three listed refusals mark the one channel concerned as spoiled"
-abbrev pub Spoiling : Refusal → Type 0
-Spoiling WrongSize = ⊥
-Spoiling CutShort = ⊥
-Spoiling TooLong = ⊥
-Spoiling NoCommand = ⊥
-Spoiling BadField = ⊥
-Spoiling BadList = ⊥
-Spoiling WrongTime = ⊥
-Spoiling NotOpen = ⊥
-Spoiling AlreadyOpen = ⊥
-Spoiling StillJoining = Unit {0}
-Spoiling OverLimit = Unit {0}
-Spoiling PastLength = Unit {0}
-Spoiling IsSpoiled = ⊥
-Spoiling NoStart = ⊥
+-- ---- what data comes to: only the three spoil, they always do, and each concerns the channel
 
--- what a refusal leaves of the channel: as it was or, by the three, spoiled
-pub data Leaves : View → View → Refusal → Type 0 where
-  kept : {v : View} {why : Refusal} → (Spoiling why → ⊥) → Leaves v v why
-  spoilt : {r : Record} {part : List ℕ} {why : Refusal} → Spoiling why → Leaves (Open r part) (Open (restaged r Spoiled) part) why
+abbrev Right : Took → Type 0
+Right (Bars why) = (spoils why ≡ false) × (ltb 7 (refusalNumber why) ≡ true)
+Right (Spoils why) = (spoils why ≡ true) × (ltb 7 (refusalNumber why) ≡ true)
+Right (Holds wanted at held) = Unit {0}
+Right (Finishes at len) = Unit {0}
 
--- only the three spoil, and they always do
-abbrev SpoilsRight : Took → Type 0
-SpoilsRight (Bars why) = Spoiling why → ⊥
-SpoilsRight (Spoils why) = Spoiling why
-SpoilsRight (Holds wanted at held) = Unit {0}
-SpoilsRight (Finishes at len) = Unit {0}
+added-right : (wanted held n : ℕ) → Right (added wanted held n)
+unfolding added spoils
+added-right wanted held n = choice Right (ltb wanted (held + n)) (λ e. (refl, refl)) (λ e. choice Right (eqb (held + n) wanted) (λ f. tt) (λ f. tt))
 
-added-right : (wanted held n : ℕ) → SpoilsRight (added wanted held n)
-unfolding added
-added-right wanted held n = choice SpoilsRight (ltb wanted (held + n)) (λ e. tt) (λ e. choice SpoilsRight (eqb (held + n) wanted) (λ f. tt) (λ f. tt))
-
-took-right : (s : Stage) (offer : Offer) (n : ℕ) → SpoilsRight (took s offer n)
-unfolding took begun
-took-right Idle (First len) n = choice SpoilsRight (ltb MESSAGE-MAX len) (λ e. tt) (λ e. added-right len 0 n)
+took-right : (s : Stage) (offer : Offer) (n : ℕ) → Right (took s offer n)
+unfolding took begun spoils
+took-right Idle (First len) n = choice Right (ltb MESSAGE-MAX len) (λ e. (refl, refl)) (λ e. added-right len 0 n)
 took-right Idle More n = tt
-took-right (Joining wanted held) (First len) n = tt
+took-right (Joining wanted held) (First len) n = (refl, refl)
 took-right (Joining wanted held) More n = added-right wanted held n
-took-right Spoiled offer n = λ z. z
+took-right Spoiled offer n = (refl, refl)
 
--- a refusal sends nothing, and leaves the channel so
-pub record Quiet (v w : View) (reply : List ℕ) (why : Refusal) : Type 0 where
+-- ---- what the rules of one channel leave where they refuse
+
+-- the channel: as it was or, by the three, spoiled
+pub data Leaves : View → View → Refusal → Type 0 where
+  kept : {v : View} {why : Refusal} → spoils why ≡ false → Leaves v v why
+  spoilt : {r : Record} {part : List ℕ} {why : Refusal} → spoils why ≡ true → Leaves (Open r part) (Open (restaged r Spoiled) part) why
+
+-- nothing is sent, and the refusal concerns whom it should
+record Quiet (e : Event) (v w : View) (reply : List ℕ) (why : Refusal) (concern : Concern) : Type 0 where
   pub silent : reply ≡ []
   pub leaves : Leaves v w why
+  pub concerns : concern ≡ concerned why e
 
-landed-quiet : (n : ℕ) (r : Record) (part bytes : List ℕ) (t : Took) → SpoilsRight t → (why : Refusal) (concern : Concern) → landed n r part bytes t .answer ≡ Refused why concern → Quiet (Open r part) (landed n r part bytes t .view) (landed n r part bytes t .reply) why
-unfolding landed stageAfter partAfter answerTo restaged
-landed-quiet n r part bytes (Bars x) s why concern e = let q : x ≡ why = cc in record { silent = refl; leaves = rw (← q) (kept s) }
-landed-quiet n r part bytes (Spoils x) s why concern e = let q : x ≡ why = cc in record { silent = refl; leaves = rw (← q) (spoilt s) }
-landed-quiet n r part bytes (Holds wanted at held) s why concern e = let z : _≡_ {A = ℕ} 0 1 = cc in absurd (omega arith)
-landed-quiet n r part bytes (Finishes at len) s why concern e = let z : _≡_ {A = ℕ} 0 1 = cc in absurd (omega arith)
+module _ (n : ℕ) (a : Act) (why : Refusal) (concern : Concern) where
+  -- a refusal that doesn't spoil, with the channel as it was
+  quiet :
+      {v : View} (x : Refusal) (c : Concern) → spoils x ≡ false → c ≡ concerned x (Of n a) → Refused x c ≡ Refused why concern
+      → Quiet (Of n a) v v [] why concern
+  quiet x c s k e =
+      let p : x ≡ why = cc in
+      let q : c ≡ concern = cc in
+      record { silent = refl; leaves = rw (← p) (kept s); concerns = sym q ∙ k ∙ ap (λ (w : Refusal). concerned w (Of n a)) p }
 
-opening-answers : (level n pri : ℕ) (room : Room) (why : Refusal) (concern : Concern) → opening level n pri room .answer ≡ Refused why concern → ⊥
+  -- what data is refused with concerns the channel
+  channel-concern :
+      (x : Refusal) → ltb 7 (refusalNumber x) ≡ true → Refused x (Channel n) ≡ Refused why concern → concern ≡ concerned why (Of n a)
+  unfolding concerned
+  channel-concern x h e =
+      let p : x ≡ why = cc in
+      let q : Channel n ≡ concern = cc in
+      rw (← p, h) (sym q)
+
+  landed-quiet :
+      (r : Record) (part bytes : List ℕ) (t : Took) → Right t → landed n r part bytes t .answer ≡ Refused why concern
+      → Quiet (Of n a) (Open r part) (landed n r part bytes t .view) (landed n r part bytes t .reply) why concern
+  unfolding landed stageAfter partAfter answerTo restaged
+  landed-quiet r part bytes (Bars x) s e = let q : x ≡ why = cc in record { silent = refl; leaves = rw (← q) (kept (s .0)); concerns = channel-concern x (s .1) e }
+  landed-quiet r part bytes (Spoils x) s e = let q : x ≡ why = cc in record { silent = refl; leaves = rw (← q) (spoilt (s .0)); concerns = channel-concern x (s .1) e }
+  landed-quiet r part bytes (Holds wanted at held) s e = let z : _≡_ {A = ℕ} 0 1 = cc in absurd (omega arith)
+  landed-quiet r part bytes (Finishes at len) s e = let z : _≡_ {A = ℕ} 0 1 = cc in absurd (omega arith)
+
+opening-answers :
+    (level n pri : ℕ) (room : Room) (why : Refusal) (concern : Concern) → opening level n pri room .answer ≡ Refused why concern → ⊥
 unfolding opening
 opening-answers level n pri NoRoom why concern e = let z : _≡_ {A = ℕ} 0 1 = cc in omega arith
 opening-answers level n pri (Spare p) why concern e = let z : _≡_ {A = ℕ} 0 1 = cc in omega arith
 
--- a refusal by one that doesn't spoil, with the channel as it was
-quiet : {v : View} (x why : Refusal) (c concern : Concern) → (Spoiling x → ⊥) → Refused x c ≡ Refused why concern → Quiet v v [] why
-quiet x why c concern s e = let q : x ≡ why = cc in record { silent = refl; leaves = rw (← q) (kept s) }
-
-pub act-quiet : (level n : ℕ) (room : Room) (v : View) (a : Act) (why : Refusal) (concern : Concern) → act level n room v a .answer ≡ Refused why concern → Quiet v (act level n room v a .view) (act level n room v a .reply) why
-unfolding act
-act-quiet level n room Shut BadCreate why concern e = quiet BadList why NoChannel concern (λ z. z) e
-act-quiet level n room (Open r part) BadCreate why concern e = quiet BadList why NoChannel concern (λ z. z) e
+act-quiet :
+    (level n : ℕ) (room : Room) (v : View) (a : Act) (why : Refusal) (concern : Concern)
+    → act level n room v a .answer ≡ Refused why concern
+    → Quiet (Of n a) v (act level n room v a .view) (act level n room v a .reply) why concern
+unfolding act spoils concerned
+act-quiet level n room Shut BadCreate why concern e = quiet n BadCreate why concern BadList NoChannel refl refl e
+act-quiet level n room (Open r part) BadCreate why concern e = quiet n BadCreate why concern BadList NoChannel refl refl e
 act-quiet level n room Shut (Create true pri) why concern e = absurd (opening-answers level n pri room why concern e)
 act-quiet level n room Shut (Create false pri) why concern e = let z : _≡_ {A = ℕ} 0 1 = cc in absurd (omega arith)
-act-quiet level n room (Open r part) (Create listed pri) why concern e = quiet AlreadyOpen why (Channel n) concern (λ z. z) e
-act-quiet level n room Shut (Bring offer bytes) why concern e = quiet NotOpen why (Channel n) concern (λ z. z) e
-act-quiet level n room (Open r part) (Bring offer bytes) why concern e = landed-quiet n r part bytes (took (r .stage) offer (length bytes)) (took-right (r .stage) offer (length bytes)) why concern e
+act-quiet level n room (Open r part) (Create listed pri) why concern e = quiet n (Create listed pri) why concern AlreadyOpen (Channel n) refl refl e
+act-quiet level n room Shut (Bring offer bytes) why concern e = quiet n (Bring offer bytes) why concern NotOpen (Channel n) refl refl e
+act-quiet level n room (Open r part) (Bring offer bytes) why concern e =
+    landed-quiet n (Bring offer bytes) why concern r part bytes (took (r .stage) offer (length bytes)) (took-right (r .stage) offer (length bytes)) e
 act-quiet level n room Shut Closing why concern e = let z : _≡_ {A = ℕ} 0 1 = cc in absurd (omega arith)
 act-quiet level n room (Open r part) Closing why concern e = let z : _≡_ {A = ℕ} 0 1 = cc in absurd (omega arith)
-act-quiet level n room Shut LocalClose why concern e = quiet NotOpen why (Channel n) concern (λ z. z) e
+act-quiet level n room Shut LocalClose why concern e = quiet n LocalClose why concern NotOpen (Channel n) refl refl e
 act-quiet level n room (Open r part) LocalClose why concern e = let z : _≡_ {A = ℕ} 0 1 = cc in absurd (omega arith)
 
 -- ---- what a refused step leaves
 
--- the state: as it was or, by the three, with one record's stage spoiled
-pub data LeavesState (st : State) : State → Refusal → Type 0 where
-  unchanged : {why : Refusal} → (Spoiling why → ⊥) → LeavesState st st why
-  spoiledAt : {why : Refusal} (k : ℕ) → k < PARTS → Spoiling why → LeavesState st (stateOf (withRecord (st .table) k (restaged (recordAt (st .table) k) Spoiled)) (st .store)) why
+record Refusing (st : State) (e : Event) (s : Stepped) (why : Refusal) (concern : Concern) : Type 0 where
+  pub silent : s .reply ≡ []
+  pub concerns : concern ≡ concerned why e
+  pub left : s .state ≡ stateOf (leftBy why e (st .table)) (st .store)
+  pub one-channel : spoils why ≡ true → IsOpen e (st .table)
 
-put-spoiled : (n : ℕ) (st : State) → Steady st → (r : Record) (p : List ℕ) → view n st ≡ Open r p → save n st (Open r p) (Open (restaged r Spoiled) p) ≡ stateOf (withRecord (st .table) (numberPlace n (st .table)) (restaged (recordAt (st .table) (numberPlace n (st .table))) Spoiled)) (st .store)
+put-spoiled :
+    (n : ℕ) (st : State) → Steady st → (r : Record) (p : List ℕ) → view n st ≡ Open r p
+    → save n st (Open r p) (Open (restaged r Spoiled) p) ≡ stateOf (withRecord (st .table) (numberPlace n (st .table)) (restaged (recordAt (st .table) (numberPlace n (st .table))) Spoiled)) (st .store)
 unfolding save wrote
 put-spoiled n st g r p h =
     let o = opened n st r p h in
     let k = numberPlace n (st .table) in
     rw (← o .1 .0, ← o .1 .1, own-part (st .store) k (g .bytes) (o .0))
 
-saved : (n : ℕ) (st : State) → Steady st → (v w : View) → view n st ≡ v → (why : Refusal) → Leaves v w why → LeavesState st (save n st v w) why
-saved n st g v w h why (kept s) = rw (← h, save-own n st (g .bytes)) (unchanged s)
-saved n st g v w h why (spoilt {r = r} {part = p} s) = rw (put-spoiled n st g r p h) (spoiledAt (numberPlace n (st .table)) (opened n st r p h .0) s)
+-- the channel's rules, put back
+module _ (n : ℕ) (a : Act) (st : State) (g : Steady st) (why : Refusal) where
+  saved :
+      (v w : View) → view n st ≡ v → Leaves v w why
+      → (save n st v w ≡ stateOf (leftBy why (Of n a) (st .table)) (st .store)) × (spoils why ≡ true → IsOpen (Of n a) (st .table))
+  unfolding leftBy IsOpen
+  saved v w h (kept s) = (rw (s, ← h) (save-own n st (g .bytes)), λ t. absurd (true-not-false (sym t ∙ s)))
+  saved v w h (spoilt {r = r} {part = p} s) = (rw s (put-spoiled n st g r p h), λ t. opened n st r p h .0)
 
--- a step that is refused sends nothing and leaves that
-pub record Refusing (st : State) (s : Stepped) (why : Refusal) : Type 0 where
-  pub silent : s .reply ≡ []
-  pub leaves : LeavesState st (s .state) why
+-- a refusal that concerns no channel
+refused-here :
+    (st : State) (e : Event) (x why : Refusal) (concern : Concern) → spoils x ≡ false → NoChannel ≡ concerned x e
+    → leftBy x e (st .table) ≡ st .table → Refused x NoChannel ≡ Refused why concern → Refusing st e (refused st x) why concern
+refused-here st e x why concern s c l h =
+    let p : x ≡ why = cc in
+    let q : NoChannel ≡ concern = cc in
+    rw (← p) (record { silent = refl; concerns = sym q ∙ c; left = ap (λ (t : Table). stateOf t (st .store)) (sym l); one-channel = λ t. absurd (true-not-false (sym t ∙ s)) })
 
-refused-here : (st : State) (x why : Refusal) (concern : Concern) → (Spoiling x → ⊥) → Refused x NoChannel ≡ Refused why concern → Refusing st (refused st x) why
-refused-here st x why concern s e = let q : x ≡ why = cc in record { silent = refl; leaves = rw (← q) (unchanged s) }
+-- ... in time or too early
+early-left : (n : ℕ) (a : Act) (t : Table) → leftBy WrongTime (Of n a) t ≡ t
+unfolding leftBy spoils
+early-left n a t = refl
+
+early-concern : (n : ℕ) (a : Act) → NoChannel ≡ concerned WrongTime (Of n a)
+unfolding concerned
+early-concern n a = refl
+
+time-kept : spoils WrongTime ≡ false
+unfolding spoils
+time-kept = refl
 
 -- a reading refusal doesn't spoil
-reading-keeps : (why : Refusal) → ReadingRefusal why → Spoiling why → ⊥
-reading-keeps WrongSize h s = s
-reading-keeps CutShort h s = s
-reading-keeps TooLong h s = s
-reading-keeps NoCommand h s = s
-reading-keeps BadField h s = s
-reading-keeps BadList h s = s
-reading-keeps WrongTime h s = s
-reading-keeps NotOpen h s = s
-reading-keeps AlreadyOpen h s = s
-reading-keeps StillJoining h s = h
-reading-keeps OverLimit h s = h
-reading-keeps PastLength h s = h
-reading-keeps IsSpoiled h s = s
-reading-keeps NoStart h s = s
+reading-keeps : (why : Refusal) → ReadingRefusal why → spoils why ≡ false
+unfolding spoils
+reading-keeps WrongSize h = refl
+reading-keeps CutShort h = refl
+reading-keeps TooLong h = refl
+reading-keeps NoCommand h = refl
+reading-keeps BadField h = refl
+reading-keeps BadList h = refl
+reading-keeps WrongTime h = refl
+reading-keeps NotOpen h = refl
+reading-keeps AlreadyOpen h = refl
+reading-keeps StillJoining h = absurd h
+reading-keeps OverLimit h = absurd h
+reading-keeps PastLength h = absurd h
+reading-keeps IsSpoiled h = refl
+reading-keeps NoStart h = refl
 
 -- what reading makes sure of a refusal in it
-abbrev pub Mild : Event → Type 0
-Mild (Unreadable why) = Spoiling why → ⊥
+abbrev Mild : Event → Type 0
+Mild (Unreadable why) = spoils why ≡ false
 Mild (Capabilities version) = Unit {0}
 Mild (Of n a) = Unit {0}
 
 module _ (st : State) (rows : length (st .table .records) ≡ PARTS) (bytes : length (st .store) ≡ STORE) (sound : soundTable (st .table) ≡ true) (why : Refusal) (concern : Concern) where
-  caps-refusing : (version : ℕ) (t : Bool) → st .table .ready ≡ t → stepped st (Capabilities version) .answer ≡ Refused why concern → Refusing st (stepped st (Capabilities version)) why
-  unfolding readied
-  caps-refusing version true r e = rw (too-late st version r) (refused-here st WrongTime why concern (λ z. z) (ap (λ (s : Stepped). s .answer) (sym (too-late st version r)) ∙ e))
+  of-refusing :
+      (n : ℕ) (a : Act) (t : Bool) → st .table .ready ≡ t → stepped st (Of n a) .answer ≡ Refused why concern
+      → Refusing st (Of n a) (stepped st (Of n a)) why concern
+  unfolding finished
+  of-refusing n a true r e =
+      let g : Steady st = record { rows = rows; bytes = bytes; sound = sound; ready = r } in
+      let step = in-time st n a (view n st) r refl in
+      let h = ap (λ (s : Stepped). s .answer) (sym step) ∙ e in
+      let q = act-quiet (st .table .level) n (roomIn st) (view n st) a why concern h in
+      let p = saved n a st g why (view n st) (act (st .table .level) n (roomIn st) (view n st) a .view) refl (q .leaves) in
+      rw step (record { silent = q .silent; concerns = q .concerns; left = p .0; one-channel = p .1 })
+  of-refusing n a false r e =
+      rw (too-early st n a r) (refused-here st (Of n a) WrongTime why concern time-kept (early-concern n a) (early-left n a (st .table)) (ap (λ (s : Stepped). s .answer) (sym (too-early st n a r)) ∙ e))
+
+  caps-refusing :
+      (version : ℕ) (t : Bool) → st .table .ready ≡ t → stepped st (Capabilities version) .answer ≡ Refused why concern
+      → Refusing st (Capabilities version) (stepped st (Capabilities version)) why concern
+  unfolding readied concerned leftBy
+  caps-refusing version true r e = rw (too-late st version r) (refused-here st (Capabilities version) WrongTime why concern time-kept refl refl (ap (λ (s : Stepped). s .answer) (sym (too-late st version r)) ∙ e))
   caps-refusing version false r e =
       let ready-answer = ap (λ (s : Stepped). s .answer) (sym (made-ready st version r)) ∙ e in
       let z : _≡_ {A = ℕ} 0 1 = cc in
       absurd (omega arith)
 
-  of-refusing : (n : ℕ) (a : Act) (t : Bool) → st .table .ready ≡ t → stepped st (Of n a) .answer ≡ Refused why concern → Refusing st (stepped st (Of n a)) why
-  unfolding finished
-  of-refusing n a true r e =
-      let g : Steady st = record { rows = rows; bytes = bytes; sound = sound; ready = r } in
-      let step = in-time st n a (view n st) r refl in
-      let q = act-quiet (st .table .level) n (roomIn st) (view n st) a why concern (ap (λ (s : Stepped). s .answer) (sym step) ∙ e) in
-      rw step (record { silent = q .silent; leaves = saved n st g (view n st) _ refl why (q .leaves) })
-  of-refusing n a false r e = rw (too-early st n a r) (refused-here st WrongTime why concern (λ z. z) (ap (λ (s : Stepped). s .answer) (sym (too-early st n a r)) ∙ e))
-
-  pub step-refusing : (e : Event) → Mild e → stepped st e .answer ≡ Refused why concern → Refusing st (stepped st e) why
-  unfolding stepped
-  step-refusing (Unreadable x) m h = refused-here st x why concern m h
+  step-refusing : (e : Event) → Mild e → stepped st e .answer ≡ Refused why concern → Refusing st e (stepped st e) why concern
+  unfolding stepped concerned leftBy
+  step-refusing (Unreadable x) m h = refused-here st (Unreadable x) x why concern m refl refl h
   step-refusing (Capabilities version) m h = caps-refusing version (st .table .ready) refl h
   step-refusing (Of n a) m h = of-refusing n a (st .table .ready) refl h
 
--- ---- what a refused call leaves
+-- ---- the call
 
--- every byte of the store and of the reply as it was, and the table so
-pub record RefusedCall (t : Table) (store reply : List ℕ) (w : Whole) (why : Refusal) : Type 0 where
-  pub stored : w .store ≡ store
-  pub replied : w .reply ≡ reply
-  pub leaves : LeavesState (stateOf t store) (stateOf (w .result .table) store) why
-
-leaves-store : (st after : State) (why : Refusal) → LeavesState st after why → (after .store ≡ st .store) × LeavesState st (stateOf (after .table) (st .store)) why
-leaves-store st after why (unchanged s) = (refl, unchanged s)
-leaves-store st after why (spoiledAt k l s) = (refl, spoiledAt k l s)
-
-whole-refusing : (t : Table) (store reply : List ℕ) (s : Stepped) (why : Refusal) → Refusing (stateOf t store) s why → RefusedCall t store reply (wholeOf reply s) why
+whole-refusing :
+    (t : Table) (store reply : List ℕ) (e : Event) (s : Stepped) (why : Refusal) (concern : Concern)
+    → Refusing (stateOf t store) e s why concern → RefusedCall t store reply e (wholeOf reply s) why concern
 unfolding wholeOf laid
-whole-refusing t store reply s why r =
-    let l = leaves-store (stateOf t store) (s .state) why (r .leaves) in
-    record { stored = l .0; replied = rw (r .silent); leaves = l .1 }
+whole-refusing t store reply e s why concern r =
+    record {
+      stored = ap (λ (x : State). x .store) (r .left);
+      replied = rw (r .silent);
+      none-sent = rw (r .silent);
+      concerns = r .concerns;
+      left = ap (λ (x : State). x .table) (r .left);
+      one-channel = r .one-channel;
+    }
 
 whole-answer : {w : Whole} (reply : List ℕ) (s : Stepped) → w ≡ wholeOf reply s → s .answer ≡ w .result .answer
 unfolding wholeOf
 whole-answer reply s e = rw e
 
--- a call behind refusal 1
-guarded-refusing : (t : Table) (store reply : List ℕ) (s : Stepped) (why : Refusal) (concern : Concern) → (Proper t (length store) (length reply) → s .answer ≡ Refused why concern → Refusing (stateOf t store) s why) → guarded t store reply s .result .answer ≡ Refused why concern → RefusedCall t store reply (guarded t store reply s) why
-guarded-refusing t store reply s why concern f e = go (badCall t (length store) (length reply)) refl
+size-left : (e : Event) (t : Table) → leftBy WrongSize e t ≡ t
+unfolding leftBy spoils
+size-left (Unreadable w) t = refl
+size-left (Capabilities version) t = refl
+size-left (Of n a) t = refl
+
+size-concern : (e : Event) → NoChannel ≡ concerned WrongSize e
+unfolding concerned
+size-concern (Unreadable w) = refl
+size-concern (Capabilities version) = refl
+size-concern (Of n a) = refl
+
+size-kept : spoils WrongSize ≡ false
+unfolding spoils
+size-kept = refl
+
+guarded-refusing :
+    (t : Table) (store reply : List ℕ) (e : Event) → length (t .records) ≡ PARTS → Mild e → (why : Refusal) (concern : Concern)
+    → guarded t store reply (stepped (stateOf t store) e) .result .answer ≡ Refused why concern
+    → RefusedCall t store reply e (guarded t store reply (stepped (stateOf t store) e)) why concern
+guarded-refusing t store reply e rows mild why concern h = go (badCall t (length store) (length reply)) refl
   where
-    go : (b : Bool) → badCall t (length store) (length reply) ≡ b → RefusedCall t store reply (guarded t store reply s) why
-    go true b = rw (refuses t store reply s b) (whole-refusing t store reply (refused (stateOf t store) WrongSize) why (refused-here (stateOf t store) WrongSize why concern (λ z. z) (whole-answer reply (refused (stateOf t store) WrongSize) (refuses t store reply s b) ∙ e)))
-    go false b = rw (passes t store reply s b) (whole-refusing t store reply s why (f (proper t (length store) (length reply) b) (whole-answer reply s (passes t store reply s b) ∙ e)))
+    go :
+        (b : Bool) → badCall t (length store) (length reply) ≡ b
+        → RefusedCall t store reply e (guarded t store reply (stepped (stateOf t store) e)) why concern
+    go true b =
+        let r = refuses t store reply (stepped (stateOf t store) e) b in
+        rw r (whole-refusing t store reply e (refused (stateOf t store) WrongSize) why concern (refused-here (stateOf t store) e WrongSize why concern size-kept (size-concern e) (size-left e t) (whole-answer reply (refused (stateOf t store) WrongSize) r ∙ h)))
+    go false b =
+        let r = passes t store reply (stepped (stateOf t store) e) b in
+        let p = proper t (length store) (length reply) b in
+        rw r (whole-refusing t store reply e (stepped (stateOf t store) e) why concern (step-refusing (stateOf t store) rows (p .store-size) (p .sound) why concern e mild (whole-answer reply (stepped (stateOf t store) e) r ∙ h)))
 
 mild-read : (list pdu : List ℕ) (p : Pdu) → Placed pdu p → Mild (eventOf list pdu p)
-unfolding eventOf eventFor actFor carriedBy
+unfolding eventOf eventFor actFor carriedBy spoils
 mild-read list pdu (CreateRequest n class name) h = tt
-mild-read list pdu (CreateResponse n status) h = λ z. z
+mild-read list pdu (CreateResponse n status) h = refl
 mild-read list pdu (DataFirst n len block) h = tt
 mild-read list pdu (Data n block) h = tt
 mild-read list pdu (Close n) h = tt
 mild-read list pdu (CapsRequest version charges) h = tt
-mild-read list pdu (CapsResponse version) h = λ z. z
+mild-read list pdu (CapsResponse version) h = refl
 mild-read list pdu (NotRead why) h = reading-keeps why h
 
 -- "A refusal writes nothing to the reply or to the message store and changes no channel, except that three listed refusals mark
 -- the one channel concerned as spoiled."
-pub receive-refused : (t : Table) (store list pdu reply : List ℕ) (why : Refusal) (concern : Concern) → length (t .records) ≡ PARTS → received t store list pdu reply .result .answer ≡ Refused why concern → RefusedCall t store reply (received t store list pdu reply) why
+pub receive-refused :
+    (t : Table) (store list pdu reply : List ℕ) (why : Refusal) (concern : Concern) → length (t .records) ≡ PARTS
+    → received t store list pdu reply .result .answer ≡ Refused why concern
+    → RefusedCall t store reply (eventOf list pdu (readPdu true pdu)) (received t store list pdu reply) why concern
 unfolding received
-receive-refused t store list pdu reply why concern rows e =
-    guarded-refusing t store reply _ why concern
-    (λ p. step-refusing (stateOf t store) rows (p .store-size) (p .sound) why concern (eventOf list pdu (readPdu true pdu)) (mild-read list pdu (readPdu true pdu) (placed pdu true))) e
+receive-refused t store list pdu reply why concern rows e = guarded-refusing t store reply (eventOf list pdu (readPdu true pdu)) rows (mild-read list pdu (readPdu true pdu) (placed pdu true)) why concern e
 
-pub local-close-refused : (t : Table) (store : List ℕ) (n : ℕ) (reply : List ℕ) (why : Refusal) (concern : Concern) → length (t .records) ≡ PARTS → locallyClosed t store n reply .result .answer ≡ Refused why concern → RefusedCall t store reply (locallyClosed t store n reply) why
+pub local-close-refused :
+    (t : Table) (store : List ℕ) (n : ℕ) (reply : List ℕ) (why : Refusal) (concern : Concern) → length (t .records) ≡ PARTS
+    → locallyClosed t store n reply .result .answer ≡ Refused why concern
+    → RefusedCall t store reply (Of n LocalClose) (locallyClosed t store n reply) why concern
 unfolding locallyClosed
-local-close-refused t store n reply why concern rows e =
-    guarded-refusing t store reply _ why concern
-    (λ p. step-refusing (stateOf t store) rows (p .store-size) (p .sound) why concern (Of n LocalClose) tt) e
+local-close-refused t store n reply why concern rows e = guarded-refusing t store reply (Of n LocalClose) rows tt why concern e
 
 -- ---- Start
 
-pub start-done : (store : List ℕ) → length store ≡ STORE → (started store ≡ record { table = emptyTable; begun = Done }) × (storeStarted store ≡ zeros STORE)
+pub start-done : (store : List ℕ) → length store ≡ STORE → (started store .table ≡ emptyTable) × (storeStarted store ≡ zeros STORE)
 unfolding started storeStarted
-start-done store e = let t = eq-eqb (length store) STORE e in (rw t, rw t)
+start-done store e = (refl, rw (eq-eqb (length store) STORE e))
 
-pub start-refused : (store : List ℕ) → length store ≢ STORE → (started store ≡ record { table = emptyTable; begun = NotBegun WrongSize }) × (storeStarted store ≡ store)
+pub start-left : (store : List ℕ) → length store ≢ STORE → (started store .table ≡ emptyTable) × (storeStarted store ≡ store)
 unfolding started storeStarted
-start-refused store d = let t = ne-eqb (length store) STORE d in (rw t, rw t)
+start-left store d = (refl, rw (ne-eqb (length store) STORE d))

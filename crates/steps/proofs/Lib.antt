@@ -1,7 +1,9 @@
 pub mod Frame
 pub mod Acts
 pub mod Channels
+pub mod Blank
 pub mod Calm
 pub mod Refusals
 pub mod Leaves
 pub mod Touches
+pub mod Widths

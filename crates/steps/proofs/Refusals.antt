@@ -1,24 +1,28 @@
 -- Each refusal number is given exactly when its row of the paper's table holds and no earlier one in the paper's order does.
 -- Assumes nothing.
-use mathlib.Core.Path.{_≡_, refl, ap, _∙_}
+use mathlib.Core.Path.{_≡_, refl, sym, ap, _∙_}
 use mathlib.Core.Bool.{Bool, true, false, cond, not}
-use mathlib.Core.List.{List, [], _∷_}
+use mathlib.Core.List.{List, [], _∷_, _++_}
 use Prim.Native.Nat.{ℕ, _+_, _-_, _≤_}
 use native.Mathlib.Nat.{zero-add}
 use native.Mathlib.Omega.{arith}
 use borrow.Author.Tests.{lt-ltb, le-ltb, ltb-true, ltb-false}
 use lib.Dec.{ltb, eqb}
 use lib.ListN.{length, length-take, length-drop}
-use Rattle.paper.specs.Sizes.{PARTS, MESSAGE-MAX}
+use Rattle.paper.specs.Sizes.{PARTS, STORE, MESSAGE-MAX}
 use Rattle.paper.specs.declared.Refusal.{Refusal}
-use Rattle.paper.specs.declared.Refusal.the-variants.{WrongSize, BadList, WrongTime, NotOpen, AlreadyOpen, StillJoining, OverLimit, PastLength, IsSpoiled}
+use Rattle.paper.specs.declared.Refusal.the-variants.{WrongSize, BadList, WrongTime, NotOpen, AlreadyOpen, StillJoining, OverLimit,
+    PastLength, IsSpoiled}
 use Rattle.lists.proofs.Cases.{choice, each}
 use Rattle.reading.specs.Reading.{readPdu}
 use Rattle.reading.specs.Said.{bytesAt}
 use Rattle.reading.specs.declared.Place.{Place}
 use Rattle.reading.specs.declared.Pdu.{Pdu}
-use Rattle.reading.specs.declared.Pdu.the-variants.{CreateRequest, CreateResponse, DataFirst, Data, Close, CapsRequest, CapsResponse, Refused}
+use Rattle.reading.specs.declared.Pdu.the-variants.{CreateRequest, CreateResponse, DataFirst, Data, Close, CapsRequest, CapsResponse,
+    Refused}
+use Rattle.reading.specs.Layouts.{verdictOn, readingRows}
 use Rattle.reading.proofs.Placed.{Placed, placed}
+use Rattle.reading.proofs.Layouts.{reading-refusals}
 use Rattle.listeners.specs.Listeners.{goodList, isListed}
 use Rattle.channel.specs.declared.Stage.{Stage}
 use Rattle.channel.specs.declared.Stage.the-variants.{Idle, Joining, Spoiled}
@@ -28,12 +32,13 @@ use Rattle.channel.specs.declared.Concern.{Concern}
 use Rattle.channel.specs.declared.Concern.the-variants.{NoChannel, Channel}
 use Rattle.channel.specs.declared.Answer.{Answer}
 use Rattle.channel.specs.declared.Answer.the-variants.{Ready, Opened, Declined, Held, Message, Closed, Ignored, Refused as Refuses}
-use Rattle.channel.specs.Answers.{wordOf, numberOf, refused as refused-word}
-use Rattle.paper.specs.Refusals.{refusalNumber}
+use Rattle.paper.specs.Rows.{Verdict, fine, refusedWith, Row, row, firstHeld, comesTo}
+use Rattle.paper.proofs.Rows.{held-before, held-behind}
 use Rattle.channel.specs.declared.Took.{Took}
 use Rattle.channel.specs.declared.Took.the-variants.{Bars, Spoils, Holds, Finishes}
 use Rattle.channel.specs.Stages.{added, begun, took}
-use Rattle.channel.specs.Channel.{Act, BadCreate, Create, Bring, Closing, LocalClose, View, Shut, Open, Room, NoRoom, Spare, opening, answerTo, landed, act}
+use Rattle.channel.specs.Channel.{Act, BadCreate, Create, Bring, Closing, LocalClose, View, Shut, Open, Room, NoRoom, Spare, opening,
+    answerTo, landed, act}
 use Rattle.table.specs.declared.Table.{Table}
 use Rattle.table.specs.Table.{numberPlace, recordAt}
 use Rattle.table.specs.Sound.{goodStage, soundTable}
@@ -41,10 +46,13 @@ use Rattle.table.proofs.Soundness.{sound-says, joining-bounds}
 use Rattle.client.specs.State.{State, stateOf, viewAt, view, roomIn}
 use Rattle.store.specs.Parts.{part}
 use Rattle.client.specs.Events.{Unreadable, Capabilities, Of, createAct, eventOf, eventFor, actFor, carriedBy}
-use Rattle.client.specs.Client.{Stepped, refused, finished, acted, readied, stepped, badCall, Whole, wholeOf, guarded, received, locallyClosed}
+use Rattle.client.specs.Client.{Stepped, refused, finished, acted, readied, stepped, badCall, Whole, wholeOf, guarded, received,
+    locallyClosed, started}
+use Rattle.client.specs.declared.Begun.the-variants.{Done, Refused as NotBegun}
 use Rattle.client.proofs.Steps.{too-late, made-ready}
 use Rattle.client.proofs.Calls.{proper, refuses, passes as passes-by}
-use Rattle.steps.specs.Rows.{Verdict, fine, refusedWith, verdictOf, Row, row, firstHeld, isOpen, stageOf, isSpoiled, isJoining, passes, firstRows, dataRows, rowsOf, receiveRows, closeRows}
+use Rattle.steps.specs.Rows.{verdictOf, outcomeOf, isOpen, stageOf, isSpoiled, isJoining, passes, firstRows, dataRows, rowsOf,
+    receiveRows, closeRows, startRows, startOutcome}
 
 -- a step's verdict
 abbrev verdict : Stepped → Verdict
@@ -79,13 +87,17 @@ to-come wanted held m h = go (ltb (wanted - held) m) refl
     go true e = let k = ltb-true (wanted - held) m e in lt-ltb wanted (held + m) (omega arith)
     go false e = let k = ltb-false (wanted - held) m e in le-ltb wanted (held + m) (omega arith)
 
-first-verdict : (s : Stage) (len m : ℕ) → tookVerdict (took s (First len) m) ≡ firstHeld (row IsSpoiled (isSpoiled s) ∷ row StillJoining (isJoining s) ∷ row OverLimit (ltb MESSAGE-MAX len) ∷ row PastLength (ltb len m) ∷ [])
+first-verdict :
+    (s : Stage) (len m : ℕ)
+    → tookVerdict (took s (First len) m) ≡ firstHeld (row IsSpoiled (isSpoiled s) ∷ row StillJoining (isJoining s) ∷ row OverLimit (ltb MESSAGE-MAX len) ∷ row PastLength (ltb len m) ∷ [])
 unfolding took begun firstHeld isSpoiled isJoining
 first-verdict Spoiled len m = refl
 first-verdict (Joining wanted held) len m = refl
 first-verdict Idle len m = each tookVerdict (λ v. v) (ltb MESSAGE-MAX len) refl (rw zero-add at (added-verdict len 0 m))
 
-data-verdict : (s : Stage) (m : ℕ) → goodStage s ≡ true → tookVerdict (took s More m) ≡ firstHeld (row IsSpoiled (isSpoiled s) ∷ row PastLength (passes s m) ∷ [])
+data-verdict :
+    (s : Stage) (m : ℕ) → goodStage s ≡ true
+    → tookVerdict (took s More m) ≡ firstHeld (row IsSpoiled (isSpoiled s) ∷ row PastLength (passes s m) ∷ [])
 unfolding took firstHeld isSpoiled passes
 data-verdict Spoiled m g = refl
 data-verdict Idle m g = refl
@@ -106,7 +118,9 @@ module _ (level n : ℕ) (room : Room) (r : Record) (part : List ℕ) where
   abbrev says : Bool → Act → Verdict
   says t a = verdictOf (act level n room (seen t) a .answer)
 
-  says-create : (t good listed : Bool) (pri : ℕ) → says t (cond good (Create listed pri) BadCreate) ≡ firstHeld (row BadList (not good) ∷ row AlreadyOpen t ∷ [])
+  says-create :
+      (t good listed : Bool) (pri : ℕ)
+      → says t (cond good (Create listed pri) BadCreate) ≡ firstHeld (row BadList (not good) ∷ row AlreadyOpen t ∷ [])
   unfolding act opening verdictOf firstHeld
   says-create true true listed pri = refl
   says-create false true true pri = says-open room
@@ -118,12 +132,16 @@ module _ (level n : ℕ) (room : Room) (r : Record) (part : List ℕ) where
   says-create true false listed pri = refl
   says-create false false listed pri = refl
 
-  says-first : (t : Bool) (len : ℕ) (bytes : List ℕ) → says t (Bring (First len) bytes) ≡ firstHeld (row NotOpen (not t) ∷ row IsSpoiled (isSpoiled (r .stage)) ∷ row StillJoining (isJoining (r .stage)) ∷ row OverLimit (ltb MESSAGE-MAX len) ∷ row PastLength (ltb len (length bytes)) ∷ [])
+  says-first :
+      (t : Bool) (len : ℕ) (bytes : List ℕ)
+      → says t (Bring (First len) bytes) ≡ firstHeld (row NotOpen (not t) ∷ row IsSpoiled (isSpoiled (r .stage)) ∷ row StillJoining (isJoining (r .stage)) ∷ row OverLimit (ltb MESSAGE-MAX len) ∷ row PastLength (ltb len (length bytes)) ∷ [])
   unfolding act firstHeld
   says-first true len bytes = landed-verdict n r part bytes (took (r .stage) (First len) (length bytes)) ∙ first-verdict (r .stage) len (length bytes)
   says-first false len bytes = refuses-so NotOpen (Channel n)
 
-  says-data : (t : Bool) (bytes : List ℕ) → goodStage (r .stage) ≡ true → says t (Bring More bytes) ≡ firstHeld (row NotOpen (not t) ∷ row IsSpoiled (isSpoiled (r .stage)) ∷ row PastLength (passes (r .stage) (length bytes)) ∷ [])
+  says-data :
+      (t : Bool) (bytes : List ℕ) → goodStage (r .stage) ≡ true
+      → says t (Bring More bytes) ≡ firstHeld (row NotOpen (not t) ∷ row IsSpoiled (isSpoiled (r .stage)) ∷ row PastLength (passes (r .stage) (length bytes)) ∷ [])
   unfolding act firstHeld
   says-data true bytes g = landed-verdict n r part bytes (took (r .stage) More (length bytes)) ∙ data-verdict (r .stage) (length bytes) g
   says-data false bytes g = refuses-so NotOpen (Channel n)
@@ -141,11 +159,15 @@ module _ (level n : ℕ) (room : Room) (r : Record) (part : List ℕ) where
 -- ---- a step
 
 -- refusal 7 stands in front of an event of a channel
-of-verdict : (st : State) (n : ℕ) (a : Act) → verdict (stepped st (Of n a)) ≡ cond (not (st .table .ready)) (refusedWith WrongTime) (verdictOf (act (st .table .level) n (roomIn st) (view n st) a .answer))
+of-verdict :
+    (st : State) (n : ℕ) (a : Act)
+    → verdict (stepped st (Of n a)) ≡ cond (not (st .table .ready)) (refusedWith WrongTime) (verdictOf (act (st .table .level) n (roomIn st) (view n st) a .answer))
 unfolding stepped acted finished
 of-verdict st n a = go (st .table .ready)
   where
-    go : (t : Bool) → verdict (cond t (finished n st (view n st) (act (st .table .level) n (roomIn st) (view n st) a)) (refused st WrongTime)) ≡ cond (not t) (refusedWith WrongTime) (verdictOf (act (st .table .level) n (roomIn st) (view n st) a .answer))
+    go :
+        (t : Bool)
+        → verdict (cond t (finished n st (view n st) (act (st .table .level) n (roomIn st) (view n st) a)) (refused st WrongTime)) ≡ cond (not t) (refusedWith WrongTime) (verdictOf (act (st .table .level) n (roomIn st) (view n st) a .answer))
     go true = refl
     go false = refuses-so WrongTime NoChannel
 
@@ -159,15 +181,21 @@ module _ (t : Table) (store list pdu : List ℕ) (sound : soundTable t ≡ true)
   abbrev found : ℕ → Act → Verdict
   found n a = verdictOf (act (t .level) n (roomIn (stateOf t store)) (view n (stateOf t store)) a .answer)
 
-  create-says : (n pri : ℕ) (name : List ℕ) → found n (createAct list name pri) ≡ firstHeld (row BadList (not (goodList list)) ∷ row AlreadyOpen (isOpen t n) ∷ [])
+  create-says :
+      (n pri : ℕ) (name : List ℕ)
+      → found n (createAct list name pri) ≡ firstHeld (row BadList (not (goodList list)) ∷ row AlreadyOpen (isOpen t n) ∷ [])
   unfolding view viewAt createAct isOpen
   create-says n pri name = says-create (t .level) n (roomIn (stateOf t store)) (recordAt t (numberPlace n t)) (part store (numberPlace n t)) (ltb (numberPlace n t) PARTS) (goodList list) (isListed list name) pri
 
-  first-says : (n len : ℕ) (bytes : List ℕ) → found n (Bring (First len) bytes) ≡ firstHeld (row NotOpen (not (isOpen t n)) ∷ row IsSpoiled (isSpoiled (stageOf t n)) ∷ row StillJoining (isJoining (stageOf t n)) ∷ row OverLimit (ltb MESSAGE-MAX len) ∷ row PastLength (ltb len (length bytes)) ∷ [])
+  first-says :
+      (n len : ℕ) (bytes : List ℕ)
+      → found n (Bring (First len) bytes) ≡ firstHeld (row NotOpen (not (isOpen t n)) ∷ row IsSpoiled (isSpoiled (stageOf t n)) ∷ row StillJoining (isJoining (stageOf t n)) ∷ row OverLimit (ltb MESSAGE-MAX len) ∷ row PastLength (ltb len (length bytes)) ∷ [])
   unfolding view viewAt isOpen stageOf
   first-says n len bytes = says-first (t .level) n (roomIn (stateOf t store)) (recordAt t (numberPlace n t)) (part store (numberPlace n t)) (ltb (numberPlace n t) PARTS) len bytes
 
-  data-says : (n : ℕ) (bytes : List ℕ) → found n (Bring More bytes) ≡ firstHeld (row NotOpen (not (isOpen t n)) ∷ row IsSpoiled (isSpoiled (stageOf t n)) ∷ row PastLength (passes (stageOf t n) (length bytes)) ∷ [])
+  data-says :
+      (n : ℕ) (bytes : List ℕ)
+      → found n (Bring More bytes) ≡ firstHeld (row NotOpen (not (isOpen t n)) ∷ row IsSpoiled (isSpoiled (stageOf t n)) ∷ row PastLength (passes (stageOf t n) (length bytes)) ∷ [])
   unfolding view viewAt isOpen stageOf
   data-says n bytes = says-data (t .level) n (roomIn (stateOf t store)) (recordAt t (numberPlace n t)) (part store (numberPlace n t)) (ltb (numberPlace n t) PARTS) bytes (sound-says t sound .stage (numberPlace n t))
 
@@ -183,29 +211,63 @@ module _ (t : Table) (store list pdu : List ℕ) (sound : soundTable t ≡ true)
   unfolding stepped
   unread why = refuses-so why NoChannel
 
-  caps-says : (version : ℕ) (b : Bool) → t .ready ≡ b → verdict (stepped (stateOf t store) (Capabilities version)) ≡ cond b (refusedWith WrongTime) fine
+  caps-says :
+      (version : ℕ) (b : Bool) → t .ready ≡ b
+      → verdict (stepped (stateOf t store) (Capabilities version)) ≡ cond b (refusedWith WrongTime) fine
   unfolding readied verdictOf
   caps-says version true e = ap verdict (too-late (stateOf t store) version e)
   caps-says version false e = ap verdict (made-ready (stateOf t store) version e)
 
-  step-verdict : (p : Pdu) → Placed pdu p → verdict (stepped (stateOf t store) (eventOf list pdu p)) ≡ firstHeld (rowsOf t list p)
+  -- what reading accepts gets the rows of its kind
+  step-verdict :
+      (p : Pdu) → Placed pdu p → verdictOn p ≡ fine
+      → verdict (stepped (stateOf t store) (eventOf list pdu p)) ≡ firstHeld (rowsOf t list p)
   unfolding eventOf eventFor actFor carriedBy rowsOf firstHeld
-  step-verdict (CapsRequest version charges) h = caps-says version (t .ready) refl
-  step-verdict (CreateRequest n class name) h = of-verdict (stateOf t store) n (createAct list (bytesAt pdu name) class) ∙ ap (cond (not (t .ready)) (refusedWith WrongTime)) (create-says n class (bytesAt pdu name))
-  step-verdict (DataFirst n len block) h =
+  step-verdict (CapsRequest version charges) h f = caps-says version (t .ready) refl
+  step-verdict (CreateRequest n class name) h f =
+      of-verdict (stateOf t store) n (createAct list (bytesAt pdu name) class)
+      ∙ ap (cond (not (t .ready)) (refusedWith WrongTime)) (create-says n class (bytesAt pdu name))
+  step-verdict (DataFirst n len block) h f =
       of-verdict (stateOf t store) n (Bring (First len) (bytesAt pdu block))
       ∙ ap (cond (not (t .ready)) (refusedWith WrongTime)) (first-says n len (bytesAt pdu block))
       ∙ ap (λ (m : ℕ). firstHeld (firstRows t n len m)) (place-long pdu block h)
-  step-verdict (Data n block) h =
+  step-verdict (Data n block) h f =
       of-verdict (stateOf t store) n (Bring More (bytesAt pdu block))
       ∙ ap (cond (not (t .ready)) (refusedWith WrongTime)) (data-says n (bytesAt pdu block))
       ∙ ap (λ (m : ℕ). firstHeld (dataRows t n m)) (place-long pdu block h)
-  step-verdict (Close n) h = of-verdict (stateOf t store) n Closing ∙ ap (cond (not (t .ready)) (refusedWith WrongTime)) (close-says n)
-  step-verdict (CreateResponse n status) h = unread WrongTime
-  step-verdict (CapsResponse version) h = unread WrongTime
-  step-verdict (Refused why) h = unread why
+  step-verdict (Close n) h f = of-verdict (stateOf t store) n Closing ∙ ap (cond (not (t .ready)) (refusedWith WrongTime)) (close-says n)
+  step-verdict (CreateResponse n status) h f = unread WrongTime
+  step-verdict (CapsResponse version) h f = unread WrongTime
+  step-verdict (Refused why) h f = let z : _≡_ {A = ℕ} 0 1 = cc in absurd (omega arith)
 
-  pub local-verdict : (n : ℕ) → verdict (stepped (stateOf t store) (Of n LocalClose)) ≡ firstHeld (row WrongTime (not (t .ready)) ∷ row NotOpen (not (isOpen t n)) ∷ [])
+  -- what reading refuses gets that refusal
+  unread-verdict :
+      (p : Pdu) (why : Refusal) → verdictOn p ≡ refusedWith why
+      → verdict (stepped (stateOf t store) (eventOf list pdu p)) ≡ refusedWith why
+  unfolding eventOf eventFor carriedBy
+  unread-verdict (CapsRequest version charges) why f = let z : _≡_ {A = ℕ} 0 1 = cc in absurd (omega arith)
+  unread-verdict (CreateRequest n class name) why f = let z : _≡_ {A = ℕ} 0 1 = cc in absurd (omega arith)
+  unread-verdict (DataFirst n len block) why f = let z : _≡_ {A = ℕ} 0 1 = cc in absurd (omega arith)
+  unread-verdict (Data n block) why f = let z : _≡_ {A = ℕ} 0 1 = cc in absurd (omega arith)
+  unread-verdict (Close n) why f = let z : _≡_ {A = ℕ} 0 1 = cc in absurd (omega arith)
+  unread-verdict (CreateResponse n status) why f = let z : _≡_ {A = ℕ} 0 1 = cc in absurd (omega arith)
+  unread-verdict (CapsResponse version) why f = let z : _≡_ {A = ℕ} 0 1 = cc in absurd (omega arith)
+  unread-verdict (Refused x) why f = unread x ∙ f
+
+  -- reading's rows first
+  read-verdict :
+      (p : Pdu) (rows : List Row) → Placed pdu p → verdictOn p ≡ firstHeld rows
+      → verdict (stepped (stateOf t store) (eventOf list pdu p)) ≡ firstHeld (rows ++ rowsOf t list p)
+  read-verdict p rows h e = go (verdictOn p) refl
+    where
+      go :
+          (v : Verdict) → verdictOn p ≡ v → verdict (stepped (stateOf t store) (eventOf list pdu p)) ≡ firstHeld (rows ++ rowsOf t list p)
+      go fine f = step-verdict p h f ∙ sym (held-behind rows (rowsOf t list p) (sym e ∙ f))
+      go (refusedWith why) f = unread-verdict p why f ∙ sym (held-before rows (rowsOf t list p) why (sym e ∙ f))
+
+  pub local-verdict :
+      (n : ℕ)
+      → verdict (stepped (stateOf t store) (Of n LocalClose)) ≡ firstHeld (row WrongTime (not (t .ready)) ∷ row NotOpen (not (isOpen t n)) ∷ [])
   unfolding firstHeld
   local-verdict n = of-verdict (stateOf t store) n LocalClose ∙ ap (cond (not (t .ready)) (refusedWith WrongTime)) (local-says n)
 
@@ -216,39 +278,70 @@ unfolding wholeOf
 whole-verdict reply s e = rw e
 
 -- refusal 1 in front, in the rows as in the call
-guarded-verdict : (t : Table) (store reply : List ℕ) (s : Stepped) (rows : List Row) → (soundTable t ≡ true → verdict s ≡ firstHeld rows) → verdictOf (guarded t store reply s .result .answer) ≡ firstHeld (row WrongSize (badCall t (length store) (length reply)) ∷ rows)
+guarded-verdict :
+    (t : Table) (store reply : List ℕ) (s : Stepped) (rows : List Row) → (soundTable t ≡ true → verdict s ≡ firstHeld rows)
+    → verdictOf (guarded t store reply s .result .answer) ≡ firstHeld (row WrongSize (badCall t (length store) (length reply)) ∷ rows)
 unfolding firstHeld
 guarded-verdict t store reply s rows f = go (badCall t (length store) (length reply)) refl
   where
-    go : (b : Bool) → badCall t (length store) (length reply) ≡ b → verdictOf (guarded t store reply s .result .answer) ≡ cond b (refusedWith WrongSize) (firstHeld rows)
+    go :
+        (b : Bool) → badCall t (length store) (length reply) ≡ b
+        → verdictOf (guarded t store reply s .result .answer) ≡ cond b (refusedWith WrongSize) (firstHeld rows)
     go true e = whole-verdict reply (refused (stateOf t store) WrongSize) (refuses t store reply s e) ∙ refuses-so WrongSize NoChannel
     go false e = whole-verdict reply s (passes-by t store reply s e) ∙ f (proper t (length store) (length reply) e .sound)
 
 -- receive refuses with the first row that holds, and with none if none does
-pub receive-refusals : (t : Table) (store list pdu reply : List ℕ) → verdictOf (received t store list pdu reply .result .answer) ≡ firstHeld (receiveRows t store list pdu reply)
+pub receive-refusals :
+    (t : Table) (store list pdu reply : List ℕ)
+    → verdictOf (received t store list pdu reply .result .answer) ≡ firstHeld (receiveRows t store list pdu reply)
 unfolding received receiveRows
-receive-refusals t store list pdu reply = guarded-verdict t store reply (stepped (stateOf t store) (eventOf list pdu (readPdu true pdu))) (rowsOf t list (readPdu true pdu)) (λ s. step-verdict t store list pdu s (readPdu true pdu) (placed pdu true))
+receive-refusals t store list pdu reply =
+    guarded-verdict t store reply (stepped (stateOf t store) (eventOf list pdu (readPdu true pdu))) (readingRows true pdu ++ rowsOf t list (readPdu true pdu))
+    (λ s. read-verdict t store list pdu s (readPdu true pdu) (readingRows true pdu) (placed pdu true) (reading-refusals true pdu))
 
 -- so does the local close
-pub local-close-refusals : (t : Table) (store : List ℕ) (n : ℕ) (reply : List ℕ) → verdictOf (locallyClosed t store n reply .result .answer) ≡ firstHeld (closeRows t store n reply)
+pub local-close-refusals :
+    (t : Table) (store : List ℕ) (n : ℕ) (reply : List ℕ)
+    → verdictOf (locallyClosed t store n reply .result .answer) ≡ firstHeld (closeRows t store n reply)
 unfolding locallyClosed closeRows
 local-close-refusals t store n reply = guarded-verdict t store reply (stepped (stateOf t store) (Of n LocalClose)) (row WrongTime (not (t .ready)) ∷ row NotOpen (not (isOpen t n)) ∷ []) (λ s. local-verdict t store [] [] s n)
 
--- ---- in the paper's terms: the word is 'refused', and the number the refusal's
+-- ---- in the paper's terms
 
-verdict-number : (answer : Answer) (why : Refusal) → verdictOf answer ≡ refusedWith why → (wordOf answer ≡ refused-word) × (numberOf answer ≡ refusalNumber why)
-unfolding verdictOf wordOf numberOf
-verdict-number (Ready level) why e = let z : _≡_ {A = ℕ} 0 1 = cc in absurd (omega arith)
-verdict-number (Opened n) why e = let z : _≡_ {A = ℕ} 0 1 = cc in absurd (omega arith)
-verdict-number (Declined n d) why e = let z : _≡_ {A = ℕ} 0 1 = cc in absurd (omega arith)
-verdict-number (Held n left) why e = let z : _≡_ {A = ℕ} 0 1 = cc in absurd (omega arith)
-verdict-number (Message n len) why e = let z : _≡_ {A = ℕ} 0 1 = cc in absurd (omega arith)
-verdict-number (Closed n) why e = let z : _≡_ {A = ℕ} 0 1 = cc in absurd (omega arith)
-verdict-number (Ignored n) why e = let z : _≡_ {A = ℕ} 0 1 = cc in absurd (omega arith)
-verdict-number (Refuses x concern) why e = let q : x ≡ why = cc in (refl, ap refusalNumber q)
+outcome-is : (answer : Answer) → outcomeOf answer ≡ comesTo answer (verdictOf answer)
+unfolding outcomeOf verdictOf comesTo
+outcome-is (Ready level) = refl
+outcome-is (Opened n) = refl
+outcome-is (Declined n why) = refl
+outcome-is (Held n left) = refl
+outcome-is (Message n len) = refl
+outcome-is (Closed n) = refl
+outcome-is (Ignored n) = refl
+outcome-is (Refuses why concern) = refl
 
-pub receive-number : (t : Table) (store list pdu reply : List ℕ) (why : Refusal) → firstHeld (receiveRows t store list pdu reply) ≡ refusedWith why → (wordOf (received t store list pdu reply .result .answer) ≡ refused-word) × (numberOf (received t store list pdu reply .result .answer) ≡ refusalNumber why)
-receive-number t store list pdu reply why h = verdict-number _ why (receive-refusals t store list pdu reply ∙ h)
+module _ (t : Table) (store reply : List ℕ) where
+  pub receive-outcome :
+      (list pdu : List ℕ)
+      → outcomeOf (received t store list pdu reply .result .answer)
+      ≡ comesTo (received t store list pdu reply .result .answer) (firstHeld (receiveRows t store list pdu reply))
+  receive-outcome list pdu =
+      outcome-is (received t store list pdu reply .result .answer)
+      ∙ ap (comesTo (received t store list pdu reply .result .answer)) (receive-refusals t store list pdu reply)
 
-pub local-close-number : (t : Table) (store : List ℕ) (n : ℕ) (reply : List ℕ) (why : Refusal) → firstHeld (closeRows t store n reply) ≡ refusedWith why → (wordOf (locallyClosed t store n reply .result .answer) ≡ refused-word) × (numberOf (locallyClosed t store n reply .result .answer) ≡ refusalNumber why)
-local-close-number t store n reply why h = verdict-number _ why (local-close-refusals t store n reply ∙ h)
+  pub local-close-outcome :
+      (n : ℕ)
+      → outcomeOf (locallyClosed t store n reply .result .answer)
+      ≡ comesTo (locallyClosed t store n reply .result .answer) (firstHeld (closeRows t store n reply))
+  local-close-outcome n =
+      outcome-is (locallyClosed t store n reply .result .answer)
+      ∙ ap (comesTo (locallyClosed t store n reply .result .answer)) (local-close-refusals t store n reply)
+
+-- ---- Start
+
+pub start-refusals : (store : List ℕ) → startOutcome (started store .begun) ≡ comesTo tt (firstHeld (startRows store))
+unfolding started startOutcome comesTo startRows firstHeld
+start-refusals store = go (eqb (length store) STORE)
+  where
+    go : (a : Bool) → startOutcome (cond a Done (NotBegun WrongSize)) ≡ comesTo tt (cond (not a) (refusedWith WrongSize) fine)
+    go true = refl
+    go false = refl

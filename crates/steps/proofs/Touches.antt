@@ -16,7 +16,8 @@ use Rattle.reading.specs.Said.{bytesAt}
 use Rattle.reading.proofs.Placed.{Placed}
 use Rattle.listeners.specs.Listeners.{goodList}
 use Rattle.reading.specs.declared.Pdu.{Pdu}
-use Rattle.reading.specs.declared.Pdu.the-variants.{CreateRequest, CreateResponse, DataFirst, Data, Close, CapsRequest, CapsResponse, Refused}
+use Rattle.reading.specs.declared.Pdu.the-variants.{CreateRequest, CreateResponse, DataFirst, Data, Close, CapsRequest, CapsResponse,
+    Refused}
 use Rattle.channel.specs.declared.Record.{Record}
 use Rattle.channel.specs.Channel.{blank, Act, View, Shut, Open, Room, act}
 use Rattle.table.specs.Table.{numberPlace, freePlace, recordAt}
@@ -27,13 +28,15 @@ use Rattle.client.specs.State.{State, view, roomIn, wrote, save}
 use Rattle.client.specs.Events.{Of, createAct, eventOf, eventFor, actFor, carriedBy, closeAct}
 use Rattle.client.specs.Client.{stepped}
 use Rattle.client.proofs.Steps.{own-part}
-use Rattle.steps.proofs.Frame.{Steady, Fits, room-for, kept-long, there-is}
-use Rattle.steps.proofs.Acts.{FineAct}
-use Rattle.steps.proofs.Channels.{ruled, ruled-fits, step-state, step-own, step-other}
+use Rattle.steps.proofs.Frame.{Fits, room-for, kept-long, there-is}
+use Rattle.steps.specs.States.{Steady, FineAct, ruled}
+use Rattle.steps.proofs.Channels.{ruled-fits, step-state, step-own, step-other}
 use Rattle.steps.proofs.Calm.{fine-create}
 
 -- a save touches no part but that of the channel with number n
-save-parts : (n : ℕ) (st : State) (g : Steady st) (v w : View) → view n st ≡ v → Fits n (roomIn st) v w → (j : ℕ) → j ≢ numberPlace n (st .table) → part (save n st v w .store) j ≡ part (st .store) j
+save-parts :
+    (n : ℕ) (st : State) (g : Steady st) (v w : View) → view n st ≡ v → Fits n (roomIn st) v w → (j : ℕ) → j ≢ numberPlace n (st .table)
+    → part (save n st v w .store) j ≡ part (st .store) j
 unfolding save wrote
 save-parts n st g Shut Shut h f j d = refl
 save-parts n st g Shut (Open r b) h f j d =
@@ -48,16 +51,22 @@ save-parts n st g (Open old kept) (Open r b) h f j d =
     part-other (st .store) k j b d (f .1 .0 ∙ kept-long n st g old kept h) (inside (st .store) k (there (st .store) k (g .bytes) (there-is n st g old kept h)))
 
 -- "Only a channel's own part is lent on to be written."
-pub step-parts : (n : ℕ) (st : State) (g : Steady st) (a : Act) → FineAct a → (j : ℕ) → j ≢ numberPlace n (st .table) → part (stepped st (Of n a) .state .store) j ≡ part (st .store) j
+pub step-parts :
+    (n : ℕ) (st : State) (g : Steady st) (a : Act) → FineAct a → (j : ℕ) → j ≢ numberPlace n (st .table)
+    → part (stepped st (Of n a) .state .store) j ≡ part (st .store) j
 step-parts n st g a z j d = ap (λ (s : State). part (s .store) j) (step-state st g n a) ∙ save-parts n st g (view n st) (ruled n st a .view) refl (ruled-fits st g n a z) j d
 
 -- an open channel that closes
-closes : (level n : ℕ) (room : Room) (v : View) (r : Record) (b : List ℕ) (local : Bool) → v ≡ Open r b → act level n room v (closeAct local) .view ≡ Shut
+closes :
+    (level n : ℕ) (room : Room) (v : View) (r : Record) (b : List ℕ) (local : Bool) → v ≡ Open r b
+    → act level n room v (closeAct local) .view ≡ Shut
 unfolding act
 closes level n room v r b true h = rw h
 closes level n room v r b false h = rw h
 
-close-state : (n : ℕ) (st : State) (g : Steady st) (r : Record) (b : List ℕ) (local : Bool) → view n st ≡ Open r b → stepped st (Of n (closeAct local)) .state ≡ wrote st (numberPlace n (st .table)) blank (zeros PART)
+close-state :
+    (n : ℕ) (st : State) (g : Steady st) (r : Record) (b : List ℕ) (local : Bool) → view n st ≡ Open r b
+    → stepped st (Of n (closeAct local)) .state ≡ wrote st (numberPlace n (st .table)) blank (zeros PART)
 unfolding save
 close-state n st g r b local h =
     step-state st g n (closeAct local)
@@ -65,7 +74,9 @@ close-state n st g r b local h =
     ∙ ap (λ (v : View). save n st v Shut) h
 
 -- "A freed record is as Start made it", and "every byte of its part becomes zero"
-pub close-frees : (n : ℕ) (st : State) (g : Steady st) (r : Record) (b : List ℕ) (local : Bool) → view n st ≡ Open r b → (recordAt (stepped st (Of n (closeAct local)) .state .table) (numberPlace n (st .table)) ≡ blank) × (part (stepped st (Of n (closeAct local)) .state .store) (numberPlace n (st .table)) ≡ zeros PART)
+pub close-frees :
+    (n : ℕ) (st : State) (g : Steady st) (r : Record) (b : List ℕ) (local : Bool) → view n st ≡ Open r b
+    → (recordAt (stepped st (Of n (closeAct local)) .state .table) (numberPlace n (st .table)) ≡ blank) × (part (stepped st (Of n (closeAct local)) .state .store) (numberPlace n (st .table)) ≡ zeros PART)
 unfolding wrote
 close-frees n st g r b local h =
     let k = numberPlace n (st .table) in
@@ -75,11 +86,15 @@ close-frees n st g r b local h =
 -- ---- the list
 
 -- a Create request leaves an open channel as it is, whatever the list
-create-keeps : (level n : ℕ) (room : Room) (r : Record) (b list name : List ℕ) (pri : ℕ) → act level n room (Open r b) (createAct list name pri) .view ≡ Open r b
+create-keeps :
+    (level n : ℕ) (room : Room) (r : Record) (b list name : List ℕ) (pri : ℕ)
+    → act level n room (Open r b) (createAct list name pri) .view ≡ Open r b
 unfolding act createAct
 create-keeps level n room r b list name pri = choice (λ (a : Act). act level n room (Open r b) a .view ≡ Open r b) (goodList list) (λ e. refl) (λ e. refl)
 
-create-open : (st : State) (g : Steady st) (m n : ℕ) (list name : List ℕ) (pri : ℕ) → pri ≤ 3 → (r : Record) (b : List ℕ) → view m st ≡ Open r b → view m (stepped st (Of n (createAct list name pri)) .state) ≡ Open r b
+create-open :
+    (st : State) (g : Steady st) (m n : ℕ) (list name : List ℕ) (pri : ℕ) → pri ≤ 3 → (r : Record) (b : List ℕ) → view m st ≡ Open r b
+    → view m (stepped st (Of n (createAct list name pri)) .state) ≡ Open r b
 create-open st g m n list name pri z r b h = go (eqb n m) refl
   where
     go : (t : Bool) → eqb n m ≡ t → view m (stepped st (Of n (createAct list name pri)) .state) ≡ Open r b
@@ -89,7 +104,9 @@ create-open st g m n list name pri z r b h = go (eqb n m) refl
     go false e = step-other m st g (Of n (createAct list name pri)) (fine-create list name pri z) e ∙ h
 
 -- "it may differ from call to call, and that never touches an open channel"
-pub two-lists : (st : State) (g : Steady st) (one two pdu : List ℕ) (p : Pdu) → Placed pdu p → (m : ℕ) (r : Record) (b : List ℕ) → view m st ≡ Open r b → view m (stepped st (eventOf one pdu p) .state) ≡ view m (stepped st (eventOf two pdu p) .state)
+pub two-lists :
+    (st : State) (g : Steady st) (one two pdu : List ℕ) (p : Pdu) → Placed pdu p → (m : ℕ) (r : Record) (b : List ℕ)
+    → view m st ≡ Open r b → view m (stepped st (eventOf one pdu p) .state) ≡ view m (stepped st (eventOf two pdu p) .state)
 unfolding eventOf eventFor actFor carriedBy
 two-lists st g one two pdu (CreateRequest n class name) z m r b h = create-open st g m n one (bytesAt pdu name) class (z .1) r b h ∙ sym (create-open st g m n two (bytesAt pdu name) class (z .1) r b h)
 two-lists st g one two pdu (CreateResponse n status) z m r b h = refl

@@ -1,29 +1,32 @@
--- The refusals once more, as the paper's table has them: a row for each number, "given exactly when", in the order on receive:
--- "1, then reading, then 7, 6, 9, 8, 13, 10, 11, 12, the first that holds". proofs/Refusals shows that the steps give exactly these.
+-- The refusals once more, as the paper's table has them: a row for each number, "given exactly when", in the order
+-- on receive: "1, then reading, then 7, 6, 9, 8, 13, 10, 11, 12, the first that holds". The rows of reading are
+-- `readingRows`, from the table of kinds. proofs/Refusals shows that the steps give exactly these.
 use Prim.Native.Nat.{ℕ, _-_}
-use mathlib.Core.Bool.{Bool, true, false, cond, not}
-use mathlib.Core.List.{List, [], _∷_}
-use lib.Dec.{ltb}
+use mathlib.Core.Bool.{Bool, true, false, not}
+use mathlib.Core.List.{List, [], _∷_, _++_}
+use lib.Dec.{ltb, eqb}
 use lib.ListN.{length}
-use Rattle.paper.specs.Sizes.{PARTS, MESSAGE-MAX}
-use Rattle.paper.specs.declared.Refusal.{Refusal}
-use Rattle.paper.specs.declared.Refusal.the-variants.{WrongSize, BadList, WrongTime, NotOpen, AlreadyOpen, StillJoining, OverLimit, PastLength, IsSpoiled}
+use Rattle.paper.specs.Sizes.{PARTS, STORE, MESSAGE-MAX}
+use Rattle.paper.specs.Refusals.{refusalNumber}
+use Rattle.paper.specs.Rows.{Verdict, fine, refusedWith, Row, row, Outcome, done, refusal}
+use Rattle.paper.specs.declared.Refusal.the-variants.{WrongSize, BadList, WrongTime, NotOpen, AlreadyOpen,
+    StillJoining, OverLimit, PastLength, IsSpoiled}
 use Rattle.reading.specs.Reading.{readPdu}
+use Rattle.reading.specs.Layouts.{readingRows}
 use Rattle.reading.specs.declared.Pdu.{Pdu}
-use Rattle.reading.specs.declared.Pdu.the-variants.{CreateRequest, CreateResponse, DataFirst, Data, Close, CapsRequest, CapsResponse, Refused}
+use Rattle.reading.specs.declared.Pdu.the-variants.{CreateRequest, CreateResponse, DataFirst, Data, Close,
+    CapsRequest, CapsResponse, Refused}
 use Rattle.listeners.specs.Listeners.{goodList}
 use Rattle.channel.specs.declared.Stage.{Stage}
 use Rattle.channel.specs.declared.Stage.the-variants.{Idle, Joining, Spoiled}
 use Rattle.channel.specs.declared.Answer.{Answer}
-use Rattle.channel.specs.declared.Answer.the-variants.{Ready, Opened, Declined, Held, Message, Closed, Ignored, Refused as Refuses}
+use Rattle.channel.specs.declared.Answer.the-variants.{Ready, Opened, Declined, Held, Message, Closed, Ignored,
+    Refused as Refuses}
 use Rattle.table.specs.declared.Table.{Table}
 use Rattle.table.specs.Table.{numberPlace, recordAt}
+use Rattle.client.specs.declared.Begun.{Begun}
+use Rattle.client.specs.declared.Begun.the-variants.{Done, Refused as NotBegun}
 use Rattle.client.specs.Client.{badCall}
-
--- a refusal, or none
-pub data Verdict : Type 0 where
-  fine : Verdict
-  refusedWith : Refusal → Verdict
 
 -- what an answer says of it
 unfoldable pub verdictOf : Answer → Verdict
@@ -36,18 +39,16 @@ verdictOf (Closed n) = fine
 verdictOf (Ignored n) = fine
 verdictOf (Refuses why concern) = refusedWith why
 
--- a row of the table: the refusal, and whether what it is given for holds
-pub record Row : Type 0 where
-  pub refusal : Refusal
-  pub holds : Bool
-
-abbrev pub row : Refusal → Bool → Row
-row why test = record { refusal = why; holds = test }
-
--- "the first that holds"
-unfoldable pub firstHeld : List Row → Verdict
-firstHeld [] = fine
-firstHeld (r ∷ rows) = cond (r .holds) (refusedWith (r .refusal)) (firstHeld rows)
+-- and the answer in the paper's terms
+unfoldable pub outcomeOf : Answer → Outcome Answer
+outcomeOf (Ready level) = done (Ready level)
+outcomeOf (Opened n) = done (Opened n)
+outcomeOf (Declined n why) = done (Declined n why)
+outcomeOf (Held n left) = done (Held n left)
+outcomeOf (Message n len) = done (Message n len)
+outcomeOf (Closed n) = done (Closed n)
+outcomeOf (Ignored n) = done (Ignored n)
+outcomeOf (Refuses why concern) = refusal (refusalNumber why)
 
 -- ---- what the rows speak of
 
@@ -80,27 +81,43 @@ passes Spoiled n = false
 -- a Data First of a Length, with a block of m bytes
 abbrev pub firstRows : Table → ℕ → ℕ → ℕ → List Row
 firstRows t n len m =
-    row WrongTime (not (t .ready)) ∷ row NotOpen (not (isOpen t n)) ∷ row IsSpoiled (isSpoiled (stageOf t n)) ∷ row StillJoining (isJoining (stageOf t n))
+    row WrongTime (not (t .ready)) ∷ row NotOpen (not (isOpen t n))
+    ∷ row IsSpoiled (isSpoiled (stageOf t n)) ∷ row StillJoining (isJoining (stageOf t n))
     ∷ row OverLimit (ltb MESSAGE-MAX len) ∷ row PastLength (ltb len m) ∷ []
 
 -- a Data with a block of m bytes
 abbrev pub dataRows : Table → ℕ → ℕ → List Row
-dataRows t n m = row WrongTime (not (t .ready)) ∷ row NotOpen (not (isOpen t n)) ∷ row IsSpoiled (isSpoiled (stageOf t n)) ∷ row PastLength (passes (stageOf t n) m) ∷ []
+dataRows t n m =
+    row WrongTime (not (t .ready)) ∷ row NotOpen (not (isOpen t n))
+    ∷ row IsSpoiled (isSpoiled (stageOf t n)) ∷ row PastLength (passes (stageOf t n) m) ∷ []
 
 unfoldable pub rowsOf : Table → List ℕ → Pdu → List Row
 rowsOf t list (CapsRequest version charges) = row WrongTime (t .ready) ∷ []
-rowsOf t list (CreateRequest n class name) = row WrongTime (not (t .ready)) ∷ row BadList (not (goodList list)) ∷ row AlreadyOpen (isOpen t n) ∷ []
+rowsOf t list (CreateRequest n class name) =
+    row WrongTime (not (t .ready)) ∷ row BadList (not (goodList list)) ∷ row AlreadyOpen (isOpen t n) ∷ []
 rowsOf t list (DataFirst n len block) = firstRows t n len (block .len)
 rowsOf t list (Data n block) = dataRows t n (block .len)
 rowsOf t list (Close n) = row WrongTime (not (t .ready)) ∷ []
 rowsOf t list (CreateResponse n status) = row WrongTime true ∷ []
 rowsOf t list (CapsResponse version) = row WrongTime true ∷ []
-rowsOf t list (Refused why) = row why true ∷ []
+rowsOf t list (Refused why) = []
 
 -- on receive: 1, then reading, then the rows of the kind
 unfoldable pub receiveRows : Table → List ℕ → List ℕ → List ℕ → List ℕ → List Row
-receiveRows t store list pdu reply = row WrongSize (badCall t (length store) (length reply)) ∷ rowsOf t list (readPdu true pdu)
+receiveRows t store list pdu reply =
+    row WrongSize (badCall t (length store) (length reply)) ∷ (readingRows true pdu ++ rowsOf t list (readPdu true pdu))
 
 -- "Local close: 1, 7, 8."
 unfoldable pub closeRows : Table → List ℕ → ℕ → List ℕ → List Row
-closeRows t store n reply = row WrongSize (badCall t (length store) (length reply)) ∷ row WrongTime (not (t .ready)) ∷ row NotOpen (not (isOpen t n)) ∷ []
+closeRows t store n reply =
+    row WrongSize (badCall t (length store) (length reply))
+    ∷ row WrongTime (not (t .ready)) ∷ row NotOpen (not (isOpen t n)) ∷ []
+
+-- Start: 1
+unfoldable pub startRows : List ℕ → List Row
+startRows store = row WrongSize (not (eqb (length store) STORE)) ∷ []
+
+-- Start's answer in the paper's terms
+unfoldable pub startOutcome : Begun → Outcome (Unit {0})
+startOutcome Done = done tt
+startOutcome (NotBegun why) = refusal (refusalNumber why)

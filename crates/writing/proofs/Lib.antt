@@ -1,4 +1,4 @@
 pub mod Answers
-pub mod ReadBack
 pub mod SameValues
 pub mod One
+pub mod Refusals

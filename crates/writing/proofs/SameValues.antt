@@ -1,44 +1,44 @@
--- "What we write we read back as the same values": a law for each kind and, behind it, the same on its writer's own contract: in
--- every outcome that the contract permits and that isn't a refusal, reading the written bytes, in their direction, says the values.
+-- "What we write we read back as the same values": a PDU that isn't refused stands at the buffer's front, and what is laid there is
+-- an encoding of its values, which reading answers.
 -- Assumes nothing.
-use mathlib.Core.Path.{_≡_, refl, sym, _∙_}
-use mathlib.Core.Bool.{Bool, true, false, cond}
-use mathlib.Core.List.{List, [], _∷_, _++_, append-assoc}
-use Prim.Native.Nat.{ℕ, _+_, _≤_, _<_}
+use mathlib.Core.Path.{_≡_, refl, sym, ap, _∙_}
+use mathlib.Core.Bool.{Bool, true, false, cond, not}
+use mathlib.Core.List.{List, [], _∷_}
+use Prim.Native.Nat.{ℕ, _≤_, _<_}
 use native.Mathlib.Omega.{arith}
-use borrow.Author.Tests.{ltb-false}
-use denote.Ref.{now}
-use lib.Dec.{ltb}
-use lib.IntN.{ℤ, pos}
+use borrow.Author.Tests.{ltb-false, eqb-true, eqb-false, not-false}
+use lib.Dec.{eqb, ltb}
+use lib.IntN.{ℤ}
 use lib.ListN.{length, take}
-use lib.Seq.{drop-at, take-length, take-append-seam}
 use mir.Syntax.{w32}
 use mir.Val.{SFits}
+use denote.Ref.{now}
 use Rattle.paper.specs.Sizes.{PDU-MAX}
-use Rattle.paper.specs.Commands.{CREATE, DATA-FIRST, DATA, CLOSE, CAPABILITIES}
 use Rattle.paper.specs.declared.Refusal.the-variants.{WrongSize, BadField, OverLimit}
 use Rattle.lists.specs.Bytes.{laid, isZero}
 use Rattle.lists.specs.Places.{place}
-use Rattle.lists.proofs.Cases.{neither}
+use Rattle.lists.proofs.Cases.{both, neither}
 use Rattle.lists.proofs.Laid.{front}
-use Rattle.lists.proofs.Places.{place-le}
-use Rattle.numbers.specs.Numbers.{narrowest}
+use Rattle.numbers.specs.Numbers.{NUMBERS}
 use Rattle.reading.specs.declared.Charges.{Charges}
-use Rattle.reading.specs.Said.{Said, row, said, bytesAt}
-use Rattle.laying.specs.Laying.{createRequestBytes, createResponseBytes, dataFirstHead, dataFirstBytes, dataBytes, closeBytes, capsRequestBytes, capsResponseBytes}
-use Rattle.laying.proofs.Lengths.{length-first-head}
-use Rattle.writing.specs.Writing.{judged, written, bufferAfter, badRequest, badVersion, badCapabilities}
-use Rattle.writing.specs.ReadBack.{saidOf, ReadsBack}
+use Rattle.reading.specs.Grammar.{Value, create-request, create-response, data-first, data-block, close, capabilities-request,
+    capabilities-response, values, readAs, SmallCharges, noCharges, Encodes}
+use Rattle.reading.proofs.Grammar.{every-encoding, zero-free, same-charges}
+use Rattle.laying.specs.Laying.{createRequestBytes, createResponseBytes, dataFirstBytes, dataBytes, closeBytes, capsRequestBytes,
+    capsResponseBytes}
+use Rattle.laying.proofs.Encoded.{close-encoded, data-encoded, data-first-encoded, create-response-encoded, create-request-encoded,
+    caps-response-encoded, caps-request-1-encoded, caps-request-encoded}
+use Rattle.writing.specs.Writing.{judged, written, bufferAfter, badRequest, badVersion, allZero, badCapabilities}
+use Rattle.writing.specs.ReadBack.{ReadsBack}
 use Rattle.writing.specs.declared.Written.{Written}
 use Rattle.writing.specs.declared.Written.the-variants.{Length, Refused}
-use Rattle.writing.proofs.ReadBack.{rest-behind, read-close, read-data, read-data-first, read-create-response, read-create-request, read-caps-request, read-caps-response, Small}
-use Rattle.writing.proofs.write_create_request.Reads as create-request
-use Rattle.writing.proofs.write_create_response.Reads as create-response
-use Rattle.writing.proofs.write_data_first.Reads as data-first
-use Rattle.writing.proofs.write_data.Reads as data-block
-use Rattle.writing.proofs.write_close.Reads as close
-use Rattle.writing.proofs.write_capabilities_request.Reads as caps-request
-use Rattle.writing.proofs.write_capabilities_response.Reads as caps-response
+use Rattle.writing.proofs.write_create_request.Reads as create-request-contract
+use Rattle.writing.proofs.write_create_response.Reads as create-response-contract
+use Rattle.writing.proofs.write_data_first.Reads as data-first-contract
+use Rattle.writing.proofs.write_data.Reads as data-contract
+use Rattle.writing.proofs.write_close.Reads as close-contract
+use Rattle.writing.proofs.write_capabilities_request.Reads as caps-request-contract
+use Rattle.writing.proofs.write_capabilities_response.Reads as caps-response-contract
 
 -- a PDU that went out: its values were good, it is no longer than a PDU may be, and it stands at the buffer's front
 pub record Went (bad : Bool) (pdu after : List ℕ) (n : ℕ) : Type 0 where
@@ -46,11 +46,16 @@ pub record Went (bad : Bool) (pdu after : List ℕ) (n : ℕ) : Type 0 where
   pub short-enough : length pdu ≤ PDU-MAX
   pub stands : take n after ≡ pdu
 
-pub went : (bad : Bool) (pdu out after : List ℕ) (r : Written) (n : ℕ) → r ≡ written bad pdu out → after ≡ bufferAfter r pdu out → r ≡ Length n → Went bad pdu after n
+pub went :
+    (bad : Bool) (pdu out after : List ℕ) (r : Written) (n : ℕ) → r ≡ written bad pdu out → after ≡ bufferAfter r pdu out → r ≡ Length n
+    → Went bad pdu after n
 unfolding written judged bufferAfter
 went bad pdu out after r n e f g = go (ltb (length out) PDU-MAX) bad (ltb PDU-MAX (length pdu)) refl refl refl (sym e ∙ g)
   where
-    go : (s t u : Bool) → ltb (length out) PDU-MAX ≡ s → bad ≡ t → ltb PDU-MAX (length pdu) ≡ u → cond s (Refused WrongSize) (cond t (Refused BadField) (cond u (Refused OverLimit) (Length (length pdu)))) ≡ Length n → Went bad pdu after n
+    go :
+        (s t u : Bool) → ltb (length out) PDU-MAX ≡ s → bad ≡ t → ltb PDU-MAX (length pdu) ≡ u
+        → cond s (Refused WrongSize) (cond t (Refused BadField) (cond u (Refused OverLimit) (Length (length pdu)))) ≡ Length n
+        → Went bad pdu after n
     go true t u p q w h = let z : _≡_ {A = ℕ} 0 1 = cc in absurd (omega arith)
     go false true u p q w h = let z : _≡_ {A = ℕ} 0 1 = cc in absurd (omega arith)
     go false false true p q w h = let z : _≡_ {A = ℕ} 0 1 = cc in absurd (omega arith)
@@ -60,128 +65,128 @@ went bad pdu out after r n e f g = go (ltb (length out) PDU-MAX) bad (ltb PDU-MA
         let laid-there : after ≡ laid out 0 pdu = rw g at f in
         record { good = q; short-enough = ltb-false PDU-MAX (length pdu) w; stands = rw (laid-there, ← m) (front out pdu k) }
 
--- ---- the block of a Data, of a Data First, and the name of a Create request, as reading finds them
-
-pub block-back : (number : ℕ) (block : List ℕ) → bytesAt (dataBytes number block) (record { at = 1 + narrowest number; len = length block }) ≡ block
-unfolding bytesAt dataBytes
-block-back number block = rw (rest-behind DATA 0 number block) (take-length block)
-
-pub first-back : (number len : ℕ) (block : List ℕ) → bytesAt (dataFirstBytes number len block) (record { at = 1 + narrowest number + narrowest len; len = length block }) ≡ block
-unfolding bytesAt dataFirstBytes
-first-back number len block = rw (drop-at (dataFirstHead number len) block _ (length-first-head number len)) (take-length block)
-
-name-back : (number class : ℕ) (name : List ℕ) → bytesAt (createRequestBytes number class name) (record { at = 1 + narrowest number; len = length name }) ≡ name
-unfolding bytesAt createRequestBytes
-name-back number class name = rw (append-assoc, rest-behind CREATE class number (name ++ (0 ∷ []))) (take-append-seam name (0 ∷ []))
+-- what is an encoding wherever it isn't refused is read back
+reads-back :
+    (fromServer bad : Bool) (pdu : List ℕ) (v : Value) → (bad ≡ false → Encodes fromServer v pdu) → ReadsBack fromServer bad pdu v
+reads-back fromServer bad pdu v encodes out n g =
+    let w = went bad pdu out _ _ n refl refl g in
+    ap (readAs fromServer) (w .stands) ∙ every-encoding fromServer v pdu (encodes (w .good)) (w .short-enough)
 
 -- ---- each kind
 
-pub close-reads : (fromServer : Bool) (number : ℕ) → number < 4294967296 → ReadsBack fromServer false (closeBytes number) (row CLOSE (pos number ∷ []) [])
-unfolding said
-close-reads fromServer number h out n g =
-    let w = went _ _ out _ _ n refl refl g in
-    rw (w .stands, read-close fromServer number h)
+pub close-reads : (fromServer : Bool) (number : ℕ) → number < NUMBERS → ReadsBack fromServer false (closeBytes number) (close number)
+close-reads fromServer number h = reads-back fromServer false _ _ (λ g. close-encoded number h fromServer)
 
-pub data-reads : (fromServer : Bool) (number : ℕ) (block : List ℕ) → number < 4294967296 → ReadsBack fromServer false (dataBytes number block) (row DATA (pos number ∷ []) block)
-unfolding said
-data-reads fromServer number block h out n g =
-    let w = went _ _ out _ _ n refl refl g in
-    rw (w .stands, read-data fromServer number block h (w .short-enough), block-back number block)
+pub data-reads :
+    (fromServer : Bool) (number : ℕ) (block : List ℕ) → number < NUMBERS
+    → ReadsBack fromServer false (dataBytes number block) (data-block number block)
+data-reads fromServer number block h = reads-back fromServer false _ _ (λ g. data-encoded number h fromServer block)
 
-pub data-first-reads : (fromServer : Bool) (number len : ℕ) (block : List ℕ) → number < 4294967296 → len < 4294967296 → ReadsBack fromServer false (dataFirstBytes number len block) (row DATA-FIRST (pos number ∷ pos len ∷ []) block)
-unfolding said
-data-first-reads fromServer number len block h k out n g =
-    let w = went _ _ out _ _ n refl refl g in
-    rw (w .stands, read-data-first fromServer number len block h k (w .short-enough), first-back number len block)
+pub data-first-reads :
+    (fromServer : Bool) (number len : ℕ) (block : List ℕ) → number < NUMBERS → len < NUMBERS
+    → ReadsBack fromServer false (dataFirstBytes number len block) (data-first number len block)
+data-first-reads fromServer number len block h k = reads-back fromServer false _ _ (λ g. data-first-encoded number h fromServer len block k)
 
-pub create-response-reads : (number : ℕ) (status : ℤ) → number < 4294967296 → SFits w32 status → ReadsBack false false (createResponseBytes number status) (row CREATE (pos number ∷ status ∷ []) [])
-unfolding said
-create-response-reads number status h f out n g =
-    let w = went _ _ out _ _ n refl refl g in
-    rw (w .stands, read-create-response number status h f)
+pub create-response-reads :
+    (number : ℕ) (status : ℤ) → number < NUMBERS → SFits w32 status
+    → ReadsBack false false (createResponseBytes number status) (create-response number status)
+create-response-reads number status h f = reads-back false false _ _ (λ g. create-response-encoded number h status f)
 
-pub create-request-reads : (number class : ℕ) (name : List ℕ) → number < 4294967296 → ReadsBack true (badRequest class name) (createRequestBytes number class name) (row CREATE (pos number ∷ pos class ∷ []) name)
-unfolding said badRequest
-create-request-reads number class name h out n g =
-    let w = went _ _ out _ _ n refl refl g in
-    let good = neither (ltb 3 class) (ltb (place isZero name) (length name)) (w .good) in
-    let no-zero : place isZero name ≡ length name = omega (arith, ltb-false (place isZero name) (length name) (good .1), place-le isZero name) in
-    rw (w .stands, read-create-request number class name h (ltb-false 3 class (good .0)) no-zero (w .short-enough), name-back number class name)
+-- a class of two bits and no zero in the name
+pub create-request-reads :
+    (number class : ℕ) (name : List ℕ) → number < NUMBERS
+    → ReadsBack true (badRequest class name) (createRequestBytes number class name) (create-request number class name)
+unfolding badRequest
+create-request-reads number class name h = reads-back true _ _ _ good
+  where
+    good : badRequest class name ≡ false → Encodes true (create-request number class name) (createRequestBytes number class name)
+    good g =
+        let p = neither (ltb 3 class) (ltb (place isZero name) (length name)) g in
+        create-request-encoded number h class name (ltb-false 3 class (p .0)) (zero-free name (ltb-false (place isZero name) (length name) (p .1)))
 
-pub caps-request-reads : (version : ℕ) (charges : Charges) → version < 65536 → Small charges → ReadsBack true (badCapabilities version charges) (capsRequestBytes version charges) (row CAPABILITIES (pos version ∷ pos (charges .class0) ∷ pos (charges .class1) ∷ pos (charges .class2) ∷ pos (charges .class3) ∷ []) [])
-unfolding said
-caps-request-reads version charges h f out n g =
-    let w = went _ _ out _ _ n refl refl g in
-    rw (w .stands, read-caps-request version charges h f (w .good))
+-- a good version is 1 to 3
+good-version : (version : ℕ) → badVersion version ≡ false → (1 ≤ version) × (version ≤ 3)
+unfolding badVersion
+good-version version e =
+    let p = neither (ltb version 1) (ltb 3 version) e in
+    (ltb-false version 1 (p .0), ltb-false 3 version (p .1))
 
-pub caps-response-reads : (version : ℕ) → version < 65536 → ReadsBack false (badVersion version) (capsResponseBytes version) (row CAPABILITIES (pos version ∷ []) [])
-unfolding said
-caps-response-reads version h out n g =
-    let w = went _ _ out _ _ n refl refl g in
-    rw (w .stands, read-caps-response version h (w .good))
+pub caps-response-reads : (version : ℕ) → ReadsBack false (badVersion version) (capsResponseBytes version) (capabilities-response version)
+caps-response-reads version = reads-back false _ _ _ (λ g. let v = good-version version g in caps-response-encoded version (v .0) (v .1))
+
+-- charges of 0 are the charges that version 1 is read with
+no-charges : (charges : Charges) → allZero charges ≡ true → noCharges ≡ charges
+unfolding allZero
+no-charges charges h =
+    let p0 = both (eqb (charges .class0) 0) _ h in
+    let p1 = both (eqb (charges .class1) 0) _ (p0 .1) in
+    let p2 = both (eqb (charges .class2) 0) _ (p1 .1) in
+    same-charges
+    (sym (eqb-true (charges .class0) 0 (p0 .0))) (sym (eqb-true (charges .class1) 0 (p1 .0)))
+    (sym (eqb-true (charges .class2) 0 (p2 .0))) (sym (eqb-true (charges .class3) 0 (p2 .1)))
+
+pub caps-request-good :
+    (version : ℕ) (charges : Charges) → SmallCharges charges → badCapabilities version charges ≡ false
+    → Encodes true (capabilities-request version charges) (capsRequestBytes version charges)
+unfolding badCapabilities
+caps-request-good version charges f = go (eqb version 1) refl
+  where
+    go :
+        (t : Bool) → eqb version 1 ≡ t → cond t (not (allZero charges)) (badVersion version) ≡ false
+        → Encodes true (capabilities-request version charges) (capsRequestBytes version charges)
+    go true e b =
+        let one : version ≡ 1 = eqb-true version 1 e in
+        let zero : noCharges ≡ charges = no-charges charges (not-false (allZero charges) b) in
+        rw (one, ← zero) (caps-request-1-encoded noCharges)
+    go false e b =
+        let v = good-version version b in
+        let two : 2 ≤ version = omega (arith, eqb-false version 1 e, v .0) in
+        caps-request-encoded version charges e two (v .1) f
+
+pub caps-request-reads :
+    (version : ℕ) (charges : Charges) → SmallCharges charges
+    → ReadsBack true (badCapabilities version charges) (capsRequestBytes version charges) (capabilities-request version charges)
+caps-request-reads version charges f = reads-back true _ _ _ (caps-request-good version charges f)
 
 -- ---- on the writers' own contracts
 
 -- an outcome that a contract permits
-on-contract : (fromServer bad : Bool) (pdu : List ℕ) (says : Said) → ReadsBack fromServer bad pdu says → (out after : List ℕ) (r : Written) (n : ℕ) → r ≡ written bad pdu out → after ≡ bufferAfter r pdu out → r ≡ Length n → saidOf fromServer (take n after) ≡ says
-on-contract fromServer bad pdu says t out after r n e f g = rw (f, e) (t out n (sym e ∙ g))
+on-contract :
+    (fromServer bad : Bool) (pdu : List ℕ) (v : Value) → ReadsBack fromServer bad pdu v → (out after : List ℕ) (r : Written) (n : ℕ)
+    → r ≡ written bad pdu out → after ≡ bufferAfter r pdu out → r ≡ Length n → readAs fromServer (take n after) ≡ values v
+on-contract fromServer bad pdu v t out after r n e f g = rw (f, e) (t out n (sym e ∙ g))
 
 pub close-back :
-    (κs : _) (a : _) (r : _) (s : _) (n : ℕ) (fromServer : Bool)
-    → close.Post κs a r s
-    → r ≡ Length n
-    → a .1 .0 < 4294967296
-    → saidOf fromServer (take n (now (s .0))) ≡ row CLOSE (pos (a .1 .0) ∷ []) []
+    (κs : _) (a : _) (r : _) (s : _) (n : ℕ) (fromServer : Bool) → close-contract.Post κs a r s → r ≡ Length n
+    → a .1 .0 < NUMBERS → readAs fromServer (take n (now (s .0))) ≡ values (close (a .1 .0))
 close-back κs a r s n fromServer p g h = on-contract _ _ _ _ (close-reads fromServer (a .1 .0) h) _ _ r n (p .0) (p .1) g
 
 pub data-back :
-    (κs : _) (a : _) (r : _) (s : _) (n : ℕ) (fromServer : Bool)
-    → data-block.Post κs a r s
-    → r ≡ Length n
-    → a .1 .0 < 4294967296
-    → saidOf fromServer (take n (now (s .0))) ≡ row DATA (pos (a .1 .0) ∷ []) (now (a .1 .1 .0))
+    (κs : _) (a : _) (r : _) (s : _) (n : ℕ) (fromServer : Bool) → data-contract.Post κs a r s → r ≡ Length n
+    → a .1 .0 < NUMBERS → readAs fromServer (take n (now (s .0))) ≡ values (data-block (a .1 .0) (now (a .1 .1 .0)))
 data-back κs a r s n fromServer p g h = on-contract _ _ _ _ (data-reads fromServer (a .1 .0) (now (a .1 .1 .0)) h) _ _ r n (p .0) (p .1) g
 
 pub data-first-back :
-    (κs : _) (a : _) (r : _) (s : _) (n : ℕ) (fromServer : Bool)
-    → data-first.Post κs a r s
-    → r ≡ Length n
-    → a .1 .0 < 4294967296
-    → a .1 .1 .0 < 4294967296
-    → saidOf fromServer (take n (now (s .0))) ≡ row DATA-FIRST (pos (a .1 .0) ∷ pos (a .1 .1 .0) ∷ []) (now (a .1 .1 .1 .0))
+    (κs : _) (a : _) (r : _) (s : _) (n : ℕ) (fromServer : Bool) → data-first-contract.Post κs a r s → r ≡ Length n
+    → a .1 .0 < NUMBERS → a .1 .1 .0 < NUMBERS → readAs fromServer (take n (now (s .0))) ≡ values (data-first (a .1 .0) (a .1 .1 .0) (now (a .1 .1 .1 .0)))
 data-first-back κs a r s n fromServer p g h k = on-contract _ _ _ _ (data-first-reads fromServer (a .1 .0) (a .1 .1 .0) (now (a .1 .1 .1 .0)) h k) _ _ r n (p .0) (p .1) g
 
 pub create-response-back :
-    (κs : _) (a : _) (r : _) (s : _) (n : ℕ)
-    → create-response.Post κs a r s
-    → r ≡ Length n
-    → a .1 .0 < 4294967296
-    → SFits w32 (a .1 .1 .0)
-    → saidOf false (take n (now (s .0))) ≡ row CREATE (pos (a .1 .0) ∷ a .1 .1 .0 ∷ []) []
+    (κs : _) (a : _) (r : _) (s : _) (n : ℕ) → create-response-contract.Post κs a r s → r ≡ Length n
+    → a .1 .0 < NUMBERS → SFits w32 (a .1 .1 .0) → readAs false (take n (now (s .0))) ≡ values (create-response (a .1 .0) (a .1 .1 .0))
 create-response-back κs a r s n p g h f = on-contract _ _ _ _ (create-response-reads (a .1 .0) (a .1 .1 .0) h f) _ _ r n (p .0) (p .1) g
 
 pub create-request-back :
-    (κs : _) (a : _) (r : _) (s : _) (n : ℕ)
-    → create-request.Post κs a r s
-    → r ≡ Length n
-    → a .1 .0 < 4294967296
-    → saidOf true (take n (now (s .0))) ≡ row CREATE (pos (a .1 .0) ∷ pos (a .1 .1 .0) ∷ []) (now (a .1 .1 .1 .0))
+    (κs : _) (a : _) (r : _) (s : _) (n : ℕ) → create-request-contract.Post κs a r s → r ≡ Length n
+    → a .1 .0 < NUMBERS → readAs true (take n (now (s .0))) ≡ values (create-request (a .1 .0) (a .1 .1 .0) (now (a .1 .1 .1 .0)))
 create-request-back κs a r s n p g h = on-contract _ _ _ _ (create-request-reads (a .1 .0) (a .1 .1 .0) (now (a .1 .1 .1 .0)) h) _ _ r n (p .0) (p .1) g
 
 pub caps-request-back :
-    (κs : _) (a : _) (r : _) (s : _) (n : ℕ)
-    → caps-request.Post κs a r s
-    → r ≡ Length n
-    → a .1 .0 < 65536
-    → Small (a .1 .1 .0)
-    → saidOf true (take n (now (s .0)))
-    ≡ row CAPABILITIES (pos (a .1 .0) ∷ pos (a .1 .1 .0 .class0) ∷ pos (a .1 .1 .0 .class1) ∷ pos (a .1 .1 .0 .class2) ∷ pos (a .1 .1 .0 .class3) ∷ []) []
-caps-request-back κs a r s n p g h f = on-contract _ _ _ _ (caps-request-reads (a .1 .0) (a .1 .1 .0) h f) _ _ r n (p .0) (p .1) g
+    (κs : _) (a : _) (r : _) (s : _) (n : ℕ) → caps-request-contract.Post κs a r s → r ≡ Length n
+    → SmallCharges (a .1 .1 .0) → readAs true (take n (now (s .0))) ≡ values (capabilities-request (a .1 .0) (a .1 .1 .0))
+caps-request-back κs a r s n p g f = on-contract _ _ _ _ (caps-request-reads (a .1 .0) (a .1 .1 .0) f) _ _ r n (p .0) (p .1) g
 
 pub caps-response-back :
-    (κs : _) (a : _) (r : _) (s : _) (n : ℕ)
-    → caps-response.Post κs a r s
-    → r ≡ Length n
-    → a .1 .0 < 65536
-    → saidOf false (take n (now (s .0))) ≡ row CAPABILITIES (pos (a .1 .0) ∷ []) []
-caps-response-back κs a r s n p g h = on-contract _ _ _ _ (caps-response-reads (a .1 .0) h) _ _ r n (p .0) (p .1) g
+    (κs : _) (a : _) (r : _) (s : _) (n : ℕ) → caps-response-contract.Post κs a r s → r ≡ Length n
+    → readAs false (take n (now (s .0))) ≡ values (capabilities-response (a .1 .0))
+caps-response-back κs a r s n p g = on-contract _ _ _ _ (caps-response-reads (a .1 .0)) _ _ r n (p .0) (p .1) g

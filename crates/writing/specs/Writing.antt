@@ -1,11 +1,12 @@
 -- What writing answers and leaves in the buffer. "Writing: 1, 5, 11."
 use Prim.Native.Nat.{ℕ}
 use mathlib.Core.Bool.{Bool, cond, not, _&&_, _||_}
-use mathlib.Core.List.{List}
+use mathlib.Core.List.{List, [], _∷_}
 use lib.Dec.{ltb, eqb}
 use lib.ListN.{length}
 use Rattle.paper.specs.Sizes.{PDU-MAX}
 use Rattle.paper.specs.Refusals.{refusalNumber}
+use Rattle.paper.specs.Rows.{Row, row, Outcome, done, refusal}
 use Rattle.paper.specs.declared.Refusal.{Refusal}
 use Rattle.paper.specs.declared.Refusal.the-variants.{WrongSize, BadField, OverLimit}
 use Rattle.lists.specs.Places.{place}
@@ -30,7 +31,8 @@ judged room bad len =
 unfoldable pub written : Bool → List ℕ → List ℕ → Written
 written bad pdu out = judged (length out) bad (length pdu)
 
--- "Bytes of a reply or PDU buffer behind the written ones stay." "Store, reply and PDU buffer are unchanged by every refusal."
+-- "Bytes of a reply or PDU buffer behind the written ones stay." "Store, reply and PDU buffer are unchanged by every
+-- refusal."
 unfoldable pub bufferAfter : Written → List ℕ → List ℕ → List ℕ
 bufferAfter (Length n) pdu out = laid out 0 pdu
 bufferAfter (Refused why) pdu out = out
@@ -44,7 +46,8 @@ unfoldable pub badVersion : ℕ → Bool
 badVersion version = ltb version 1 || ltb 3 version
 
 unfoldable pub allZero : Charges → Bool
-allZero charges = eqb (charges .class0) 0 && (eqb (charges .class1) 0 && (eqb (charges .class2) 0 && eqb (charges .class3) 0))
+allZero charges =
+    eqb (charges .class0) 0 && (eqb (charges .class1) 0 && (eqb (charges .class2) 0 && eqb (charges .class3) 0))
 
 -- "or charges other than 0 with version 1 (read as 0)"
 unfoldable pub badCapabilities : ℕ → Charges → Bool
@@ -54,13 +57,17 @@ badCapabilities version charges = cond (eqb version 1) (not (allZero charges)) (
 unfoldable pub requestLength : ℕ → ℕ
 requestLength version = cond (eqb version 1) 4 12
 
--- ---- the answer in the paper's terms
+-- ---- the answer in the paper's terms, and the refusals as rows
 
--- the PDU's length, or a refusal
-pub data Outcome : Type 0 where
-  wrote : ℕ → Outcome
-  refusal : ℕ → Outcome
-
-unfoldable pub outcome : Written → Outcome
-outcome (Length n) = wrote n
+-- the PDU's length, or the refusal's number
+unfoldable pub outcome : Written → Outcome ℕ
+outcome (Length n) = done n
 outcome (Refused why) = refusal (refusalNumber why)
+
+-- "Writing: 1, 5, 11."
+unfoldable pub writingRows : Bool → List ℕ → List ℕ → List Row
+writingRows bad pdu out =
+    row WrongSize (ltb (length out) PDU-MAX)
+    ∷ row BadField bad
+    ∷ row OverLimit (ltb PDU-MAX (length pdu))
+    ∷ []

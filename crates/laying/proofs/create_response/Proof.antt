@@ -7,7 +7,8 @@ use mir.Facts.{toZ-ofZ}
 use Rattle.lists.specs.Bytes.{laid}
 use Rattle.numbers.specs.Status.{statusBytes}
 use Rattle.lists.proofs.Laid.{laid-next}
-use Rattle.laying.proofs.Lengths.{head-le, length-status}
+use Rattle.numbers.proofs.Signs.{length-status}
+use Rattle.laying.proofs.Lengths.{head-le}
 use Rattle.laying.specs.Laying.{headOf, createResponseBytes}
 use Rattle.paper.specs.Commands.{CREATE}
 use borrow.Author.Needs.{needs}
