@@ -1,5 +1,5 @@
 #!/usr/bin/env python3
-"""Compares two walkers on generated inputs.
+"""Compares two walkers, or two programs that print the messages handed up, on generated inputs.
 
 usage: fuzz.py SEED COUNT KEEP WALKER [WORD..] -- WALKER [WORD..]
 
@@ -311,9 +311,14 @@ def main():
                 print(f"  {walker[0]}: {text.decode('latin-1')}")
             return 1
         runs += 1
-        for text in a.split(b"\n")[1:-1]:
+        for text in a.split(b"\n")[:-1]:
             parts = text.decode().split(" ")
-            word = parts[1] + " " + parts[3] if parts[1] in ("refused", "declined") else parts[1]
+            if parts[0] == "pdu":
+                continue
+            if len(parts) == 3:
+                word = "messages of no bytes" if parts[2] == "-" else "messages of bytes"
+            else:
+                word = parts[1] + " " + parts[3] if parts[1] in ("refused", "declined") else parts[1]
             words[word] = words.get(word, 0) + 1
             pdus += 1
     print(f"{runs} inputs, {pdus} lines, no difference")

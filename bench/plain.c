@@ -4,13 +4,17 @@
  * the rules alone and shares nothing with the library.
  *
  *   plain walk < PDUS         a line for each PDU; the one listener is PUMP
+ *   plain messages < PDUS     the bytes of each message handed up
  *   plain bench ROUNDS FILE   all PDUs of FILE, ROUNDS times, each round from
- *                             Start; how many PDUs got each answer
+ *                             Start and ended by closing what is open; how
+ *                             many calls got each answer
  *
  * The input is PDUs, each after its length in two bytes, little-endian.
  *
  * The state is one struct behind a pointer and nobody else can touch it, so
  * refusal 1 (a buffer of the wrong size, an unsound table) cannot happen here.
+ * With -DSOUND the table is tested at every call all the same, as the library
+ * must, whose table its host passes in: then both do the same job.
  */
 #include <stdbool.h>
 #include <stdint.h>
@@ -32,6 +36,7 @@ enum {
 
 enum refusal {
     GOOD = 0,
+    UNSOUND = 1,
     CUT_SHORT = 2,
     TOO_LONG = 3,
     BAD_COMMAND = 4,
@@ -369,24 +374,82 @@ static struct answer on_data(struct manager *m, const struct pdu *pdu)
     return answered(HELD, pdu->number, wanted - held, 0);
 }
 
+static struct answer closed(struct manager *m, struct channel *ch, uint8_t *reply)
+{
+    uint32_t number = ch->number;
+
+    memset(m->store[ch - m->channels], 0, MESSAGE_MAX);
+    *ch = (struct channel){0};
+    return answered(CLOSED, number, 0, put_header(reply, CLOSE, number));
+}
+
 static struct answer on_close(struct manager *m, const struct pdu *pdu, uint8_t *reply)
 {
     struct channel *ch = find(m, pdu->number);
 
     if (ch == NULL)
         return answered(IGNORED, pdu->number, 0, 0);
-    memset(m->store[ch - m->channels], 0, MESSAGE_MAX);
-    *ch = (struct channel){0};
-    return answered(CLOSED, pdu->number, 0, put_header(reply, CLOSE, pdu->number));
+    return closed(m, ch, reply);
 }
+
+/* A close by the host. */
+static struct answer local_close(struct manager *m, uint32_t number, uint8_t reply[REPLY_MAX])
+{
+    struct channel *ch;
+
+    if (!m->ready)
+        return refused(OUT_OF_TURN);
+    ch = find(m, number);
+    if (ch == NULL)
+        return refused_channel(NOT_OPEN, number);
+    return closed(m, ch, reply);
+}
+
+#ifdef SOUND
+/* No number in two open channels, no class over 3, while joining held below wanted and wanted at most MESSAGE_MAX; nothing
+ * open when not ready, and when ready level 1 or 2. */
+static bool sound(const struct manager *m)
+{
+    uint64_t seen = 0;
+
+    if (m->ready && m->level != 1 && m->level != 2)
+        return false;
+    for (const struct channel *ch = m->channels; ch < m->channels + CHANNELS; ch++) {
+        uint64_t bit;
+
+        if (!ch->open && !ch->priority_class && ch->stage == IDLE) /* as Start made it */
+            continue;
+        if (ch->priority_class > 3)
+            return false;
+        if (ch->stage == JOINING && (ch->held >= ch->wanted || ch->wanted > MESSAGE_MAX))
+            return false;
+        if (!ch->open)
+            continue;
+        if (!m->ready)
+            return false;
+        bit = UINT64_C(1) << (ch->number & 63);
+        if (seen & bit) /* the same number, or another with the same low bits */
+            for (const struct channel *before = m->channels; before < ch; before++)
+                if (before->open && before->number == ch->number)
+                    return false;
+        seen |= bit;
+    }
+    return true;
+}
+#endif
 
 /* One PDU from the server. */
 static struct answer receive(struct manager *m, const uint8_t *bytes, size_t length, const uint8_t *list,
                              size_t list_length, uint8_t reply[REPLY_MAX])
 {
     struct pdu pdu;
-    enum refusal refusal = read_pdu(bytes, length, &pdu);
+    enum refusal refusal;
 
+#ifdef SOUND
+    if (!sound(m))
+        return refused(UNSOUND);
+#endif
+    refusal = read_pdu(bytes, length, &pdu);
     if (refusal != GOOD)
         return refused(refusal);
     if (pdu.command == CAPABILITIES)
@@ -403,7 +466,7 @@ static struct answer receive(struct manager *m, const uint8_t *bytes, size_t len
     }
 }
 
-/* ---- the two programs ---- */
+/* ---- the programs ---- */
 
 static const uint8_t listeners[] = "PUMP"; /* with its zero: one name */
 
@@ -449,6 +512,41 @@ static int walk(void)
     return 0;
 }
 
+/* The place, the channel and the bytes of a message that was just handed up. */
+static void print_message(uint64_t place, const struct answer *a)
+{
+    const struct channel *ch = find(&the_manager, a->channel);
+    const uint8_t *bytes = the_manager.store[ch - the_manager.channels];
+
+    printf("%llu %lu ", (unsigned long long)place, (unsigned long)a->channel);
+    for (uint32_t i = 0; i < a->number; i++)
+        printf("%02x", bytes[i]);
+    puts(a->number == 0 ? "-" : "");
+}
+
+static int messages(void)
+{
+    static uint8_t record[RECORD_MAX];
+    uint8_t prefix[2];
+
+    start(&the_manager);
+    for (uint64_t place = 0; fread(prefix, 1, sizeof prefix, stdin) == sizeof prefix; place++) {
+        size_t length = (size_t)prefix[0] | (size_t)prefix[1] << 8;
+        struct answer a;
+
+        if (fread(record, 1, length, stdin) < length)
+            break;
+        a = receive(&the_manager, record, length, listeners, sizeof listeners, the_reply);
+        if (a.word == MESSAGE)
+            print_message(place, &a);
+    }
+    if (ferror(stdin) || fflush(stdout) != 0 || ferror(stdout)) {
+        fputs("plain: input or output failed\n", stderr);
+        return 1;
+    }
+    return 0;
+}
+
 /* A whole file of at most FILE_MAX bytes. */
 static bool read_file(const char *name, uint8_t *into, size_t *length)
 {
@@ -463,7 +561,7 @@ static bool read_file(const char *name, uint8_t *into, size_t *length)
     return good;
 }
 
-/* One round from Start; a last record cut short is left out. */
+/* One round from Start, ended by closing what is open; a last record cut short is left out. */
 static void one_round(const uint8_t *file, size_t length, uint64_t counts[WORDS])
 {
     size_t at = 0;
@@ -480,12 +578,15 @@ static void one_round(const uint8_t *file, size_t length, uint64_t counts[WORDS]
         counts[a.word]++;
         at += n;
     }
+    for (int i = 0; i < CHANNELS; i++)
+        if (the_manager.channels[i].open)
+            counts[local_close(&the_manager, the_manager.channels[i].number, the_reply).word]++;
 }
 
 static int bench(uint32_t rounds, const char *name)
 {
     static uint8_t file[FILE_MAX];
-    uint64_t counts[WORDS] = {0}, pdus = 0;
+    uint64_t counts[WORDS] = {0}, calls = 0;
     size_t length;
 
     if (!read_file(name, file, &length)) {
@@ -495,8 +596,8 @@ static int bench(uint32_t rounds, const char *name)
     for (uint32_t i = 0; i < rounds; i++)
         one_round(file, length, counts);
     for (int w = 0; w < WORDS; w++)
-        pdus += counts[w];
-    printf("pdus %llu\n", (unsigned long long)pdus);
+        calls += counts[w];
+    printf("calls %llu\n", (unsigned long long)calls);
     for (int w = 0; w < WORDS; w++)
         printf("%s %llu\n", word_names[w], (unsigned long long)counts[w]);
     return 0;
@@ -521,8 +622,10 @@ int main(int argc, char **argv)
 
     if (argc == 2 && strcmp(argv[1], "walk") == 0)
         return walk();
+    if (argc == 2 && strcmp(argv[1], "messages") == 0)
+        return messages();
     if (argc == 4 && strcmp(argv[1], "bench") == 0 && read_count(argv[2], &rounds))
         return bench(rounds, argv[3]);
-    puts("usage: plain walk | plain bench ROUNDS FILE");
+    puts("usage: plain walk | plain messages | plain bench ROUNDS FILE");
     return 2;
 }

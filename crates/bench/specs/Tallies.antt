@@ -1,4 +1,4 @@
--- How many PDUs got each answer word.
+-- How many calls got each answer word.
 use Prim.Native.Nat.{ℕ, _+_, _%_, _^_}
 use Rattle.channel.specs.declared.Answer.{Answer}
 use Rattle.channel.specs.declared.Answer.the-variants.{Ready, Opened, Declined, Held, Message, Closed, Ignored, Refused}
@@ -12,10 +12,10 @@ abbrev pub counts : ℕ → ℕ → ℕ → ℕ → ℕ → ℕ → ℕ → ℕ 
 counts a b c d e f g h =
     record { ready = a; opened = b; declined = c; held = d; message = e; closed = f; ignored = g; refused = h }
 
-abbrev pub noPdus : Tally
-noPdus = counts 0 0 0 0 0 0 0 0
+abbrev pub noCalls : Tally
+noCalls = counts 0 0 0 0 0 0 0 0
 
--- one more PDU for the answer's word
+-- one more call for the answer's word
 abbrev pub tallied : Tally → Answer → Tally
 tallied t (Ready level) = counts (plus (t .ready) 1) (t .opened) (t .declined) (t .held) (t .message) (t .closed) (t .ignored) (t .refused)
 tallied t (Opened n) = counts (t .ready) (plus (t .opened) 1) (t .declined) (t .held) (t .message) (t .closed) (t .ignored) (t .refused)
@@ -26,7 +26,7 @@ tallied t (Closed n) = counts (t .ready) (t .opened) (t .declined) (t .held) (t 
 tallied t (Ignored n) = counts (t .ready) (t .opened) (t .declined) (t .held) (t .message) (t .closed) (plus (t .ignored) 1) (t .refused)
 tallied t (Refused why concern) = counts (t .ready) (t .opened) (t .declined) (t .held) (t .message) (t .closed) (t .ignored) (plus (t .refused) 1)
 
--- all PDUs
+-- all calls
 abbrev pub sumOf : Tally → ℕ
 sumOf t =
     plus

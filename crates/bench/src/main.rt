@@ -1,14 +1,20 @@
-// The benchmark: all PDUs of a file, many times in memory, and how many of them got each answer.
+// The benchmark: all PDUs of a file, many times in memory, and how many calls got each answer.
 //
 // Called as `bench bench ROUNDS FILE`. FILE has PDUs, each after its length in two bytes, little-endian, and at most
-// 2 MiB. Each round begins with Start and hands every PDU to `client::receive`, with the one listener PUMP. Then it
-// prints `pdus N` and, for each answer word, how many PDUs got it. bench/plain.c prints the same from plain C.
+// 2 MiB. Each round is a host's: it begins with Start, hands over every PDU, with the one listener PUMP, and then closes what
+// is open. Then it prints `calls N` and, for each answer word, how many calls got it. bench/plain.c prints the same from
+// plain C.
 use channel::Answer;
+use client::Asked;
+use files::Filled;
+use libc::STDERR_FILENO;
 use libc::STDOUT_FILENO;
+use paper::PARTS;
 ghost use mathlib.Core.Path.{_≡_};
 ghost use Prim.Native.Nat.{_<_, _≤_};
 ghost use lib.ListN.{length};
-ghost use Rattle.bench.specs.Tallies.{plus, tallied, noPdus, sumOf};
+ghost use Rattle.bench.specs.Hosts.{askedNext};
+ghost use Rattle.bench.specs.Tallies.{plus, tallied, noCalls, sumOf};
 
 // The most bytes that a file has.
 const FILE_MAX: usize = 2097152;
@@ -16,7 +22,7 @@ const FILE_MAX: usize = 2097152;
 // Every count of rounds is below this.
 const ROUNDS_END: u64 = 1000000000;
 
-// How many PDUs got each answer word.
+// How many calls got each answer word.
 struct Tally {
     ready: u64,
     opened: u64,
@@ -35,7 +41,7 @@ fn plus(a: u64, b: u64) -> u64
     std::num::wrapping_add_u64(a, b)
 }
 
-// The tally with one more PDU for the answer's word.
+// The tally with one more call for the answer's word.
 fn tallied(tally: Tally, answer: Answer) -> Tally
     ensures { λ r. ⌜ r ≡ tallied tally answer ⌝ }
 {
@@ -60,21 +66,47 @@ fn wide(byte: u8) -> usize
     byte as usize
 }
 
-// One round: Start, then each whole record of the file. A last record that is cut short is left out.
+// What the host asks next: what a PDU asks, or a close of the number.
+fn next_asked(received: bool, pdu: &[u8], number: u32) -> Asked
+    ensures { λ r. ⌜ r ≡ askedNext received (now (pdu .entry)) number ⌝ }
+{
+    if received {
+        return client::heard(b"PUMP\0", pdu);
+    }
+    client::closing(number)
+}
+
+// One round: Start, each whole record of the file, and a close of what is open then. A last record that is cut short is left
+// out. PDUs and closes come to one call of `client::step`, which is compiled into this loop and has no other caller.
 fn one_round(file: &[u8], store: &mut [u8], reply: &mut [u8], before: Tally) -> Tally
     ensures { λ _. ⌜ length (now (store .exit)) ≡ length (now (store .entry)) ⌝ }
 {
     let mut table = client::start(store).table;
     let mut tally = before;
     let mut at = 0;
-    while 2 <= file.len() - at {
-        let start = at + 2;
-        let n = wide(file[at]) + 256 * wide(file[at + 1]);
-        if file.len() - start < n {
-            return tally;
+    let mut closes = 0;
+    while closes < PARTS {
+        let mut start = at;
+        let mut end = at;
+        let mut number = 0;
+        if 2 <= file.len() - at {
+            let n = wide(file[at]) + 256 * wide(file[at + 1]);
+            start = at + 2;
+            if file.len() - start < n {
+                at = file.len();
+                continue;
+            }
+            end = start + n;
+        } else {
+            let row = table::find_open(table).row;
+            if !row.taken {
+                return tally;
+            }
+            number = row.number;
+            closes += 1;
         }
-        let end = start + n;
-        let got = client::receive(table, store, b"PUMP\0", &file[start..end], reply);
+        let asked = next_asked(at < end, &file[start..end], number);
+        let got = client::step(table, store, asked, &file[start..end], reply);
         let next = got.table;
         let answer = got.answer;
         table = next;
@@ -86,7 +118,7 @@ fn one_round(file: &[u8], store: &mut [u8], reply: &mut [u8], before: Tally) -> 
 
 // So many rounds over the file.
 fn run(rounds: u64, file: &[u8]) -> Tally
-    ensures { λ r. ⌜ (rounds ≡ 0 → r ≡ noPdus) ⌝ }
+    ensures { λ r. ⌜ (rounds ≡ 0 → r ≡ noCalls) ⌝ }
 {
     let mut store = [0u8; paper::STORE];
     // The store begins used, and is known outside the program: what is written to it can't be left out as never read.
@@ -110,7 +142,7 @@ fn run(rounds: u64, file: &[u8]) -> Tally
     tally
 }
 
-// How many PDUs there were.
+// How many calls there were.
 fn sum(t: Tally) -> u64
     ensures { λ r. ⌜ r ≡ sumOf t ⌝ }
 {
@@ -136,7 +168,7 @@ fn print_line(word: &[u8], number: u64) -> usize
 fn print_tally(t: Tally) -> usize
     ensures { λ r. ⌜ r ≤ 9 ⌝ }
 {
-    print_line(b"pdus", sum(t))
+    print_line(b"calls", sum(t))
         + print_line(b"ready", t.ready)
         + print_line(b"opened", t.opened)
         + print_line(b"declined", t.declined)
@@ -183,20 +215,26 @@ fn count_of(text: &[u8]) -> u64
     count
 }
 
-// Reads the file into the room lent, and runs it. Answers how many lines were written.
+// Reads the file into the room lent, and runs it. Answers how many lines were written. A file that can't be opened or
+// read, or is too long, is said on standard error.
 fn run_file(rounds: u64, path: &[u8], room: &mut [u8]) -> usize
     ensures { λ r. ⌜ r ≤ 9 ⌝ }
 {
     let fd = os::open_read(path);
-    let n = io::read_full(fd, room);
-    if fd < 0 || FILE_MAX < n {
-        io::write_all(
-            STDOUT_FILENO,
-            b"cannot read the file, or it is over 2 MiB\n",
-        );
-        return 1;
+    if fd < 0 {
+        os::fail(path);
+        return 0;
     }
-    print_tally(run(rounds, &room[..n]))
+    let Filled::To(n) = files::load(fd, room) else {
+        os::fail(path);
+        return 0;
+    };
+    if FILE_MAX < n {
+        io::write_all(STDERR_FILENO, b"bench: the file is over 2 MiB\n");
+        return 0;
+    }
+    let end = lists::lesser(n, room.len());
+    print_tally(run(rounds, &room[..end]))
 }
 
 // Room for a file, with one byte more than a file may have, so that a longer one shows.
@@ -223,7 +261,7 @@ fn main() {
     let p = os::arg(3, &mut path);
     let rounds = count_of(&count[..c]);
     if os::arg_count() != 4 || ROUNDS_END <= rounds || !listeners::listed(b"bench\0", &word[..w]) {
-        io::write_all(STDOUT_FILENO, b"usage: bench bench ROUNDS FILE\n");
+        io::write_all(STDERR_FILENO, b"usage: bench bench ROUNDS FILE\n");
         return;
     }
     bench(rounds, &path[..p]);

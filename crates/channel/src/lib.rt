@@ -1,11 +1,16 @@
-// One channel: its record, its stage, and what data does to its stage.
+// One channel: its record, its stage, and the rules of what an event does to it.
 //
-// specs/Channel has the rules of one channel as one definition, `act`, which every step of the manager goes through.
-// `take` is the part of them that joins messages: it takes any stage, any offer and any length, and always answers.
+// specs/Channel has the rules as one definition, `act`, which every step of the manager goes through. The function `act` is
+// their code, with no table, no store and no bytes in hand: it takes the channel's record and what is asked of it, and says
+// what becomes of the record and of the part, what is answered and what is sent. `take` is the part that joins messages.
 use paper::MESSAGE_MAX;
 use paper::Refusal;
 ghost use mathlib.Core.Path.{_≡_};
+ghost use Prim.Native.Nat.{_-_};
+ghost use Rattle.channel.specs.Answers.{concernOf, numberOf};
 ghost use Rattle.channel.specs.Stages.{added, begun, took};
+ghost use Rattle.channel.specs.Channel.{classAt, openedRecord, restaged};
+ghost use Rattle.channel.specs.Turns.{answering, declining, creating, landing, bringing, closing, turnOf};
 
 // How far a channel's message is.
 pub enum Stage {
@@ -122,5 +127,265 @@ pub fn take(stage: Stage, offer: Offer, n: usize) -> Took
             Offer::First(length) => begin(length, n),
             Offer::More => Took::Finishes { at: 0, len: n },
         },
+    }
+}
+
+// What an event asks of its channel.
+pub enum Ask {
+    // A Create request with a listener list outside its rule.
+    NoList,
+    // A Create request: whether its name is in the list, and its Pri.
+    Name { listed: bool, pri: u8 },
+    // A Data First or a Data. Its block stands beside it, and here only the block's length counts.
+    Block(Offer),
+    // A Close, or a close by the host.
+    End { local: bool },
+}
+
+// What becomes of the record.
+pub enum Change {
+    Stays,
+    Becomes(Record),
+    Frees,
+}
+
+// What becomes of the channel's part of the store.
+pub enum Part {
+    Keeps,
+    // The block goes into it from here on.
+    Takes { at: usize },
+    // Every byte becomes zero.
+    Clears,
+}
+
+// The version that we say. The level in use is never above it.
+pub const OUR_VERSION: u16 = 2;
+
+// What is sent.
+pub enum Reply {
+    NoReply,
+    // A Capabilities response.
+    Version,
+    // A Create response.
+    Status(i32),
+    // A Close.
+    CloseBack,
+}
+
+// What an event does to its channel, what is answered, and what is sent.
+pub struct Turn {
+    pub change: Change,
+    pub part: Part,
+    pub answer: Answer,
+    pub reply: Reply,
+}
+
+// Nothing but an answer.
+pub fn answers(answer: Answer) -> Turn
+    ensures { λ r. ⌜ r ≡ answering answer ⌝ }
+{
+    Turn {
+        change: Change::Stays,
+        part: Part::Keeps,
+        answer,
+        reply: Reply::NoReply,
+    }
+}
+
+// A refusal that concerns the channel with the number, and nothing else.
+fn refuses(number: u32, why: Refusal) -> Turn
+    ensures { λ r. ⌜ r ≡ answering (Answer.Refused why (Concern.Channel number)) ⌝ }
+{
+    let concern = Concern::Channel(number);
+    answers(Answer::Refused { why, concern })
+}
+
+// A Create request is declined with a status.
+fn declines(number: u32, why: Decline, status: i32) -> Turn
+    ensures { λ r. ⌜ r ≡ declining number why status ⌝ }
+{
+    Turn {
+        change: Change::Stays,
+        part: Part::Keeps,
+        answer: Answer::Declined { number, why },
+        reply: Reply::Status(status),
+    }
+}
+
+// Class is Pri at level 2, and 0 at level 1.
+fn class_at(level: u8, pri: u8) -> u8
+    ensures { λ r. ⌜ r ≡ classAt level pri ⌝ }
+{
+    if level == 2 {
+        return pri;
+    }
+    0
+}
+
+// The record of a channel just opened.
+fn opened(level: u8, number: u32, pri: u8) -> Record
+    ensures { λ r. ⌜ r ≡ openedRecord level number pri ⌝ }
+{
+    Record {
+        number,
+        class: class_at(level, pri),
+        taken: true,
+        stage: Stage::Idle,
+    }
+}
+
+// A Create request.
+fn create(level: u8, number: u32, room: bool, row: Record, listed: bool, pri: u8) -> Turn
+    ensures { λ r. ⌜ r ≡ creating level number room row listed pri ⌝ }
+{
+    if row.taken {
+        return refuses(number, Refusal::AlreadyOpen);
+    }
+    if !listed {
+        return declines(number, Decline::Unlisted, paper::UNLISTED);
+    }
+    if !room {
+        return declines(number, Decline::Full, paper::FULL);
+    }
+    Turn {
+        change: Change::Becomes(opened(level, number, pri)),
+        part: Part::Keeps,
+        answer: Answer::Opened { number },
+        reply: Reply::Status(paper::OPENED),
+    }
+}
+
+// How many bytes of a message are still to come.
+fn left(wanted: u16, held: u16) -> usize
+    ensures { λ r. ⌜ r ≡ wanted - held ⌝ }
+{
+    if held < wanted {
+        return (wanted - held) as usize;
+    }
+    0
+}
+
+// The record in another stage.
+fn restaged(row: Record, stage: Stage) -> Record
+    ensures { λ r. ⌜ r ≡ restaged row stage ⌝ }
+{
+    Record {
+        number: row.number,
+        class: row.class,
+        taken: row.taken,
+        stage,
+    }
+}
+
+// What data does to an open channel, told of its record and its part.
+fn lands(number: u32, row: Record, took: Took) -> Turn
+    ensures { λ r. ⌜ r ≡ landing number row took ⌝ }
+{
+    match took {
+        Took::Bars(why) => refuses(number, why),
+        Took::Spoils(why) => Turn {
+            change: Change::Becomes(restaged(row, Stage::Spoiled)),
+            part: Part::Keeps,
+            answer: Answer::Refused {
+                why,
+                concern: Concern::Channel(number),
+            },
+            reply: Reply::NoReply,
+        },
+        Took::Holds { wanted, at, held } => Turn {
+            change: Change::Becomes(restaged(row, Stage::Joining { wanted, held })),
+            part: Part::Takes { at: at as usize },
+            answer: Answer::Held {
+                number,
+                left: left(wanted, held),
+            },
+            reply: Reply::NoReply,
+        },
+        Took::Finishes { at, len } => Turn {
+            change: Change::Becomes(restaged(row, Stage::Idle)),
+            part: Part::Takes { at: at as usize },
+            answer: Answer::Message { number, len },
+            reply: Reply::NoReply,
+        },
+    }
+}
+
+// A Data First or a Data, with a block of n bytes.
+fn bring(number: u32, row: Record, offer: Offer, n: usize) -> Turn
+    ensures { λ r. ⌜ r ≡ bringing number row offer n ⌝ }
+{
+    if !row.taken {
+        return refuses(number, Refusal::NotOpen);
+    }
+    let stage = row.stage;
+    lands(number, row, take(stage, offer, n))
+}
+
+// A Close, or a close by the host.
+fn close(number: u32, row: Record, local: bool) -> Turn
+    ensures { λ r. ⌜ r ≡ closing number row local ⌝ }
+{
+    if row.taken {
+        return Turn {
+            change: Change::Frees,
+            part: Part::Clears,
+            answer: Answer::Closed { number },
+            reply: Reply::CloseBack,
+        };
+    }
+    if local {
+        return refuses(number, Refusal::NotOpen);
+    }
+    answers(Answer::Ignored { number })
+}
+
+// The rules of one channel, at a level, for an event with a block of n bytes. A record that isn't taken is that of a
+// channel which is shut; `room` says whether a record is free for it.
+pub fn act(level: u8, number: u32, room: bool, row: Record, ask: Ask, n: usize) -> Turn
+    ensures { λ r. ⌜ r ≡ turnOf level number room row ask n ⌝ }
+{
+    match ask {
+        Ask::NoList => answers(Answer::Refused {
+            why: Refusal::BadList,
+            concern: Concern::NoChannel,
+        }),
+        Ask::Name { listed, pri } => create(level, number, room, row, listed, pri),
+        Ask::Block(offer) => bring(number, row, offer, n),
+        Ask::End { local } => close(number, row, local),
+    }
+}
+
+// The channel that the answer concerns.
+pub fn concerns(answer: Answer) -> Concern
+    ensures { λ r. ⌜ r ≡ concernOf answer ⌝ }
+{
+    match answer {
+        Answer::Ready { level: _ } => Concern::NoChannel,
+        Answer::Opened { number } => Concern::Channel(number),
+        Answer::Declined { number, why: _ } => Concern::Channel(number),
+        Answer::Held { number, left: _ } => Concern::Channel(number),
+        Answer::Message { number, len: _ } => Concern::Channel(number),
+        Answer::Closed { number } => Concern::Channel(number),
+        Answer::Ignored { number } => Concern::Channel(number),
+        Answer::Refused { why: _, concern } => concern,
+    }
+}
+
+// The answer's number: level, bytes still to come, message length, refusal number, 1 unlisted or 2 full, else 0.
+pub fn value(answer: Answer) -> u64
+    ensures { λ r. ⌜ r ≡ numberOf answer ⌝ }
+{
+    match answer {
+        Answer::Ready { level } => level as u64,
+        Answer::Opened { number: _ } => 0,
+        Answer::Declined { number: _, why } => match why {
+            Decline::Unlisted => 1,
+            Decline::Full => 2,
+        },
+        Answer::Held { number: _, left } => left as u64,
+        Answer::Message { number: _, len } => len as u64,
+        Answer::Closed { number: _ } => 0,
+        Answer::Ignored { number: _ } => 0,
+        Answer::Refused { why, concern: _ } => paper::number(why) as u64,
     }
 }

@@ -1,6 +1,5 @@
 pub mod Steps
-pub mod Landing
-pub mod Creating
-pub mod Within
+pub mod Asking
+pub mod Deciding
 pub mod Calls
 pub mod One

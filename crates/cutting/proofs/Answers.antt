@@ -10,11 +10,12 @@ use lib.Dec.{ltb, lit<}
 use lib.ListN.{length, take}
 use Rattle.paper.specs.Sizes.{PDU-MAX, MESSAGE-MAX}
 use Rattle.paper.specs.Refusals.{refusalNumber}
-use Rattle.paper.specs.declared.Refusal.the-variants.{WrongSize, OverLimit, NoStart}
+use Rattle.paper.specs.declared.Refusal.the-variants.{BadCall, OverLimit, NoStart}
 use Rattle.lists.specs.Bytes.{laid}
 use Rattle.lists.proofs.Cases.{choice}
 use Rattle.lists.proofs.Laid.{front}
-use Rattle.cutting.specs.Cutting.{blockEnd, isStart, cutPdu, cutAt, bufferAfter, cutBuffer, LENGTH-UNIT, packed, refusalOf, unpacked}
+use Rattle.cutting.specs.Cutting.{blockEnd, isStart, cutPdu, cutAt, bufferAfter, cutBuffer, LENGTH-UNIT, packed}
+use Rattle.cutting.specs.Cutting.{refusalOf, unpacked}
 use Rattle.cutting.specs.declared.Piece.{Piece}
 use Rattle.cutting.specs.declared.Piece.the-variants.{Pdu, Refused}
 use Rattle.cutting.proofs.Blocks.{header-pos, length-cut, cut-fits, end-within}
@@ -28,7 +29,7 @@ module _ (number : ℕ) (message : List ℕ) (offset : ℕ) (out : List ℕ) whe
   Answers piece after = (piece ≡ cutAt number message offset out) × (after ≡ cutBuffer number message offset out)
 
   -- 1
-  pub short-buffer : length out < PDU-MAX → Answers (Refused WrongSize) out
+  pub short-buffer : length out < PDU-MAX → Answers (Refused BadCall) out
   unfolding cutBuffer bufferAfter cutAt
   short-buffer h = let e = lt-ltb (length out) PDU-MAX h in (rw e, rw e)
 
@@ -41,7 +42,8 @@ module _ (number : ℕ) (message : List ℕ) (offset : ℕ) (out : List ℕ) whe
       (rw (e, f), rw (e, f))
 
   -- 14
-  pub no-start : PDU-MAX ≤ length out → length message ≤ MESSAGE-MAX → isStart number (length message) offset ≡ false → Answers (Refused NoStart) out
+  pub no-start : PDU-MAX ≤ length out → length message ≤ MESSAGE-MAX → isStart number (length message) offset ≡ false
+      → Answers (Refused NoStart) out
   unfolding cutBuffer bufferAfter cutAt
   no-start h k s =
       let e = le-ltb (length out) PDU-MAX h in
@@ -49,7 +51,9 @@ module _ (number : ℕ) (message : List ℕ) (offset : ℕ) (out : List ℕ) whe
       (rw (e, f, s), rw (e, f, s))
 
   -- at a start: the PDU's length and the next offset, and the PDU at the buffer's front
-  pub at-start : PDU-MAX ≤ length out → length message ≤ MESSAGE-MAX → isStart number (length message) offset ≡ true → Answers (Pdu (length (cutPdu number message offset)) (blockEnd number (length message) offset)) (laid out 0 (cutPdu number message offset))
+  pub at-start : PDU-MAX ≤ length out → length message ≤ MESSAGE-MAX → isStart number (length message) offset ≡ true
+      → Answers (Pdu (length (cutPdu number message offset)) (blockEnd number (length message) offset))
+      (laid out 0 (cutPdu number message offset))
   unfolding cutBuffer bufferAfter cutAt
   at-start h k s =
       let e = le-ltb (length out) PDU-MAX h in
@@ -78,9 +82,16 @@ module _ (number : ℕ) (message : List ℕ) (offset : ℕ) (out : List ℕ) whe
 
   pub given : (len next : ℕ) → cutAt number message offset out ≡ Pdu len next → Given len next
   unfolding cutAt
-  given len next h = go (ltb (length out) PDU-MAX) (ltb MESSAGE-MAX (length message)) (isStart number (length message) offset) refl refl refl h
+  given len next h = go (ltb (length out) PDU-MAX) (ltb MESSAGE-MAX (length message))
+      (isStart number (length message) offset) refl refl refl h
     where
-      go : (s t u : Bool) → ltb (length out) PDU-MAX ≡ s → ltb MESSAGE-MAX (length message) ≡ t → isStart number (length message) offset ≡ u → cond s (Refused WrongSize) (cond t (Refused OverLimit) (cond (not u) (Refused NoStart) (Pdu (length (cutPdu number message offset)) (blockEnd number (length message) offset)))) ≡ Pdu len next → Given len next
+      go : (s t u : Bool) → ltb (length out) PDU-MAX ≡ s → ltb MESSAGE-MAX (length message) ≡ t
+          → isStart number (length message) offset ≡ u
+          → cond s (Refused BadCall)
+          (cond t (Refused OverLimit)
+          (cond (not u) (Refused NoStart)
+          (Pdu (length (cutPdu number message offset)) (blockEnd number (length message) offset)))) ≡ Pdu len next
+          → Given len next
       go true t u p q w h = let z : _≡_ {A = ℕ} 0 1 = cc in absurd (omega arith)
       go false true u p q w h = let z : _≡_ {A = ℕ} 0 1 = cc in absurd (omega arith)
       go false false false p q w h = let z : _≡_ {A = ℕ} 0 1 = cc in absurd (omega arith)
@@ -91,7 +102,15 @@ module _ (number : ℕ) (message : List ℕ) (offset : ℕ) (out : List ℕ) whe
           let n : next ≡ blockEnd number (length message) offset = cc in
           let pdu = cutPdu number message offset in
           let fits = cut-fits number message offset in
-          record { roomy = roomy; short-enough = short; start = w; whole-pdu = l; ends = n; stands = rw (l, ← (at-start roomy short w .1)) (front out pdu (omega arith)) }
+          record {
+            roomy = roomy;
+            short-enough = short;
+            start = w;
+            whole-pdu = l;
+            ends = n;
+            stands =
+                rw (l, ← (at-start roomy short w .1)) (front out pdu (omega arith));
+          }
 
 -- ---- the packed answer
 
@@ -109,20 +128,31 @@ possible number message offset out =
     (λ short.
     choice Possible (not (isStart number (length message) offset)) (λ _. (refl, lit< tt))
     (λ some.
-    let start = start-within number (length message) offset (not-false (isStart number (length message) offset) some) in
-    (omega (arith, length-cut number message offset, header-pos number (length message) offset), (cut-fits number message offset, omega (arith, end-within number (length message) offset start, ltb-false MESSAGE-MAX (length message) short))))))
+    let start = start-within number (length message) offset (not-false (isStart number (length message) offset) some) in (
+      omega (arith, length-cut number message offset, header-pos number (length message) offset),
+      (
+        cut-fits number message offset,
+        omega (
+          arith,
+          end-within number (length message) offset start,
+          ltb-false MESSAGE-MAX (length message) short,
+        ),
+      ),
+    ))))
 
 -- unpacking gives it back
 pub unpacked-packed : (piece : Piece) → Possible piece → unpacked (packed piece) ≡ piece
 unfolding unpacked packed LENGTH-UNIT MESSAGE-MAX
 unpacked-packed (Pdu len next) h =
-    let e : ltb (len * LENGTH-UNIT + next) LENGTH-UNIT ≡ false = le-ltb (len * LENGTH-UNIT + next) LENGTH-UNIT (omega arith) in
+    let e : ltb (len * LENGTH-UNIT + next) LENGTH-UNIT ≡ false =
+    le-ltb (len * LENGTH-UNIT + next) LENGTH-UNIT (omega arith) in
     let l : (len * LENGTH-UNIT + next) / LENGTH-UNIT ≡ len = omega arith in
     let n : (len * LENGTH-UNIT + next) % LENGTH-UNIT ≡ next = omega arith in
     rw (e, l, n)
 unpacked-packed (Refused why) h = rw (lt-ltb (refusalNumber why) LENGTH-UNIT (h .1), h .0)
 
-pub unpacked-cut : (number : ℕ) (message : List ℕ) (offset : ℕ) (out : List ℕ) → unpacked (packed (cutAt number message offset out)) ≡ cutAt number message offset out
+pub unpacked-cut : (number : ℕ) (message : List ℕ) (offset : ℕ) (out : List ℕ)
+    → unpacked (packed (cutAt number message offset out)) ≡ cutAt number message offset out
 unpacked-cut number message offset out = unpacked-packed _ (possible number message offset out)
 
 -- a PDU is at least 131,072, and a refusal below that: one can't be mistaken for the other

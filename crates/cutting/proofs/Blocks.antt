@@ -29,7 +29,8 @@ module _ (number total at : ℕ) where
 
   pub header-pos : 2 ≤ headerLen number total at
   unfolding headerLen
-  header-pos = let n = narrowest-pos number in choice (λ (k : ℕ). 2 ≤ k) (isFirst total at) (λ _. omega arith) (λ _. omega arith)
+  header-pos = let n = narrowest-pos number in choice (λ (k : ℕ). 2 ≤ k) (isFirst total at) (λ _. omega arith)
+      (λ _. omega arith)
 
   -- a PDU has room for its header
   pub header-fits : headerLen number total at ≤ PDU-MAX
@@ -96,33 +97,41 @@ module _ (number : ℕ) (message : List ℕ) (at : ℕ) where
   length-block = simp (length-take, length-drop) (omega arith)
 
   -- the part of the message up to the block's end
-  pub part-block : (end : ℕ) → end ≡ blockEnd number (length message) at → take (end - at) (drop at message) ≡ block number message at
+  pub part-block : (end : ℕ) → end ≡ blockEnd number (length message) at → take (end - at) (drop at message) ≡ block
+      number message at
   unfolding block blockEnd
   part-block end e = let k : end - at ≡ blockLen number (length message) at = omega arith in rw k
 
   -- the block, and what is left behind its end
   pub block-rest : block number message at ++ drop (blockEnd number (length message) at) message ≡ drop at message
   unfolding block blockEnd
-  block-rest = rw (← drop-drop (blockLen number (length message) at) at message) (take-append-drop (blockLen number (length message) at) (drop at message))
+  block-rest = rw (← drop-drop (blockLen number (length message) at) at message)
+      (take-append-drop (blockLen number (length message) at) (drop at message))
 
-  pub cut-first : isFirst (length message) at ≡ true → cutPdu number message at ≡ dataFirstBytes number (length message) (block number message at)
+  pub cut-first : isFirst (length message) at ≡ true
+      → cutPdu number message at ≡ dataFirstBytes number (length message) (block number message at)
   unfolding cutPdu
   cut-first e = rw e
 
-  pub cut-data : isFirst (length message) at ≡ false → cutPdu number message at ≡ dataBytes number (block number message at)
+  pub cut-data : isFirst (length message) at ≡ false
+      → cutPdu number message at ≡ dataBytes number (block number message at)
   unfolding cutPdu
   cut-data e = rw e
 
   -- a PDU is its header and its block
-  pub length-cut : length (cutPdu number message at) ≡ headerLen number (length message) at + blockLen number (length message) at
+  pub length-cut : length (cutPdu number message at) ≡ headerLen number (length message) at + blockLen number
+      (length message) at
   unfolding cutPdu headerLen
   length-cut =
       let b = length-block in
       let f = length-data-first number (length message) (block number message at) in
       let d = length-data number (block number message at) in
-      go (isFirst (length message) at) _ _ _ _ _ (f ∙ ap (λ (k : ℕ). 1 + narrowest number + narrowest (length message) + k) b) (d ∙ ap (λ (k : ℕ). 1 + narrowest number + k) b)
+      go (isFirst (length message) at) _ _ _ _ _
+      (f ∙ ap (λ (k : ℕ). 1 + narrowest number + narrowest (length message) + k) b)
+      (d ∙ ap (λ (k : ℕ). 1 + narrowest number + k) b)
     where
-      go : (t : Bool) (x y : List ℕ) (k j l : ℕ) → length x ≡ k + l → length y ≡ j + l → length (cond t x y) ≡ cond t k j + l
+      go : (t : Bool) (x y : List ℕ) (k j l : ℕ) → length x ≡ k + l → length y ≡ j + l
+          → length (cond t x y) ≡ cond t k j + l
       go true x y k j l p q = p
       go false x y k j l p q = q
 

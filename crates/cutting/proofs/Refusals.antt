@@ -9,9 +9,19 @@ use lib.ListN.{length}
 use Rattle.paper.specs.Sizes.{PDU-MAX, MESSAGE-MAX}
 use Rattle.paper.specs.Rows.{fine, refusedWith, firstHeld, comesTo}
 use Rattle.paper.specs.declared.Refusal.{Refusal}
-use Rattle.paper.specs.declared.Refusal.the-variants.{WrongSize, OverLimit, NoStart}
-use Rattle.cutting.specs.Cutting.{blockEnd, isStart, cutPdu, cutAt, bufferAfter, cutBuffer, Lengths, lengthsAt, outcome,
-    cuttingRows}
+use Rattle.paper.specs.declared.Refusal.the-variants.{BadCall, OverLimit, NoStart}
+use Rattle.cutting.specs.Cutting.{
+  blockEnd,
+  isStart,
+  cutPdu,
+  cutAt,
+  bufferAfter,
+  cutBuffer,
+  Lengths,
+  lengthsAt,
+  outcome,
+  cuttingRows,
+}
 use Rattle.cutting.specs.declared.Piece.{Piece}
 use Rattle.cutting.specs.declared.Piece.the-variants.{Pdu, Refused}
 
@@ -22,8 +32,8 @@ module _ (number : ℕ) (message : List ℕ) (offset : ℕ) (out : List ℕ) whe
     where
       go :
           (a b c : Bool)
-          → outcome (cond a (Refused WrongSize) (cond b (Refused OverLimit) (cond c (Refused NoStart) (Pdu (length (cutPdu number message offset)) (blockEnd number (length message) offset)))))
-          ≡ comesTo (lengthsAt number message offset) (cond a (refusedWith WrongSize) (cond b (refusedWith OverLimit) (cond c (refusedWith NoStart) fine)))
+          → outcome (cond a (Refused BadCall) (cond b (Refused OverLimit) (cond c (Refused NoStart) (Pdu (length (cutPdu number message offset)) (blockEnd number (length message) offset)))))
+          ≡ comesTo (lengthsAt number message offset) (cond a (refusedWith BadCall) (cond b (refusedWith OverLimit) (cond c (refusedWith NoStart) fine)))
       go true b c = refl
       go false true c = refl
       go false false true = refl

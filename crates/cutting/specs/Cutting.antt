@@ -8,15 +8,15 @@ use Rattle.paper.specs.Sizes.{PDU-MAX, MESSAGE-MAX, WHOLE-MAX}
 use Rattle.paper.specs.Refusals.{refusalNumber}
 use Rattle.paper.specs.Rows.{Row, row, Outcome, done, refusal}
 use Rattle.paper.specs.declared.Refusal.{Refusal}
-use Rattle.paper.specs.declared.Refusal.the-variants.{WrongSize, OverLimit, NoStart}
+use Rattle.paper.specs.declared.Refusal.the-variants.{BadCall, OverLimit, NoStart}
 use Rattle.lists.specs.Bytes.{laid}
 use Rattle.numbers.specs.Numbers.{narrowest}
 use Rattle.laying.specs.Laying.{dataBytes, dataFirstBytes}
 use Rattle.cutting.specs.declared.Piece.{Piece}
 use Rattle.cutting.specs.declared.Piece.the-variants.{Pdu, Refused}
 
--- "a message of at most 1,590 bytes is one Data PDU, at offset 0 only. A longer one has at offset 0 a Data First
--- [..]; then [..] a Data"
+-- "a message of at most 1,590 bytes is one Data PDU, at offset 0 only. A longer one
+-- has at offset 0 a Data First [..]; then [..] a Data"
 unfoldable pub isFirst : ℕ → ℕ → Bool
 isFirst total at = ltb WHOLE-MAX total && eqb at 0
 
@@ -32,15 +32,15 @@ blockLen number total at = min (total - at) (PDU-MAX - headerLen number total at
 unfoldable pub blockEnd : ℕ → ℕ → ℕ → ℕ
 blockEnd number total at = at + blockLen number total at
 
--- "then, starting just where the block before ended, [..] until the length is reached": whether the offset is among
--- so many starts, of which `at` is the first
+-- "then, starting just where the block before ended, [..] until the length is reached":
+-- whether the offset is among so many starts, of which `at` is the first
 unfoldable pub meets : ℕ → ℕ → ℕ → ℕ → ℕ → Bool
 meets zero number total offset at = false
 meets (suc more) number total offset at =
     eqb at offset || (ltb (blockEnd number total at) total && meets more number total offset (blockEnd number total at))
 
--- the offset is a start of a block: it is met from 0 on, the start of an empty message too. Every block but the
--- last has a byte, so that no message has more starts than this
+-- the offset is a start of a block: it is met from 0 on, the start of an empty message too. Every
+-- block but the last has a byte, so that no message has more starts than this
 unfoldable pub isStart : ℕ → ℕ → ℕ → Bool
 isStart number total offset = meets (suc total) number total offset 0
 
@@ -63,13 +63,13 @@ refuse why test rest = cond test (Refused why) rest
 -- "The answer is the PDU's length and the next offset."
 unfoldable pub cutAt : ℕ → List ℕ → ℕ → List ℕ → Piece
 cutAt number message offset out =
-    refuse WrongSize (ltb (length out) PDU-MAX)
+    refuse BadCall (ltb (length out) PDU-MAX)
     (refuse OverLimit (ltb MESSAGE-MAX (length message))
     (refuse NoStart (not (isStart number (length message) offset))
     (Pdu (length (cutPdu number message offset)) (blockEnd number (length message) offset))))
 
--- "Bytes of a reply or PDU buffer behind the written ones stay." "Store, reply and PDU buffer are unchanged by every
--- refusal."
+-- "Bytes of a reply or PDU buffer behind the written ones stay." "Store, reply
+-- and PDU buffer are unchanged by every refusal."
 unfoldable pub bufferAfter : Piece → List ℕ → List ℕ → List ℕ
 bufferAfter (Pdu len next) pdu out = laid out 0 pdu
 bufferAfter (Refused why) pdu out = out
@@ -96,7 +96,7 @@ outcome (Refused why) = refusal (refusalNumber why)
 -- "Cutting: 1, 11, 14."
 unfoldable pub cuttingRows : ℕ → List ℕ → ℕ → List ℕ → List Row
 cuttingRows number message offset out =
-    row WrongSize (ltb (length out) PDU-MAX)
+    row BadCall (ltb (length out) PDU-MAX)
     ∷ row OverLimit (ltb MESSAGE-MAX (length message))
     ∷ row NoStart (not (isStart number (length message) offset))
     ∷ []
@@ -115,7 +115,8 @@ packed (Refused why) = refusalNumber why
 -- cutting's three refusals by their numbers
 unfoldable pub refusalOf : ℕ → Refusal
 refusalOf n =
-    cond (eqb n (refusalNumber WrongSize)) WrongSize (cond (eqb n (refusalNumber OverLimit)) OverLimit NoStart)
+    cond (eqb n (refusalNumber BadCall)) BadCall
+    (cond (eqb n (refusalNumber OverLimit)) OverLimit NoStart)
 
 -- how the host reads it
 unfoldable pub unpacked : ℕ → Piece

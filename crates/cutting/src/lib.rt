@@ -73,7 +73,8 @@ fn is_start(number: u32, total: usize, offset: usize) -> bool
 // Lays the PDU of the block that starts at an offset.
 fn lay(number: u32, message: &[u8], at: usize, out: &mut [u8]) -> Piece
     requires { ⌜ (length (now message) ≤ MESSAGE-MAX) × (at ≤ length (now message)) ⌝ }
-    ensures { λ r. ⌜ r ≡ Piece.Pdu (length (cutPdu number (now (message .entry)) at)) (blockEnd number (length (now (message .entry))) at) ⌝ }
+    ensures { λ r. ⌜ r ≡ Piece.Pdu (length (cutPdu number (now (message .entry)) at))
+        (blockEnd number (length (now (message .entry))) at) ⌝ }
     ensures { λ _. ⌜ now (out .exit) ≡ laid (now (out .entry)) 0 (cutPdu number (now (message .entry)) at) ⌝ }
 {
     let total = message.len();
@@ -93,7 +94,7 @@ pub fn cut(number: u32, message: &[u8], offset: usize, out: &mut [u8]) -> Piece
     ensures { λ _. ⌜ now (out .exit) ≡ cutBuffer number (now (message .entry)) offset (now (out .entry)) ⌝ }
 {
     if out.len() < PDU_MAX {
-        return Piece::Refused(Refusal::WrongSize);
+        return Piece::Refused(Refusal::BadCall);
     }
     if MESSAGE_MAX < message.len() {
         return Piece::Refused(Refusal::OverLimit);

@@ -4,14 +4,13 @@
 use mathlib.Core.Path.{_≡_, refl, sym, ap, _∙_}
 use mathlib.Core.Bool.{Bool, true, false}
 use mathlib.Core.List.{List, [], _∷_, map}
-use Rattle.client.specs.State.{State}
+use Rattle.connection.specs.States.{State}
 use Rattle.client.specs.Events.{Event}
 use Rattle.client.specs.Client.{stepped}
 use Rattle.demands.specs.Trace.{final, seen}
 use Rattle.demands.specs.Runs.{Call, Told, eventIn, eventsOf, eventMeetsFull}
 use Rattle.demands.specs.Joining.{flag, flags}
-use Rattle.demands.specs.Managers.{Manager, JustStarted, first-start, new-start, everyTold, Sight, atStart, sightNext, sightTold,
-    paperStart, shouldTell, Roomy, Demand2Of}
+use Rattle.demands.specs.Managers.{Manager, JustStarted, first-start, new-start, everyTold, Sight, atStart, sightNext, sightTold, paperStart, shouldTell, Roomy, Demand2Of}
 use Rattle.demands.specs.Useless.{Beside, fresh, besideNext, besideTold, managerBy, right, With, warpNext, warpTold}
 
 -- ---- runs over events and flags

@@ -30,25 +30,23 @@ use Rattle.channel.specs.declared.Took.{Took}
 use Rattle.channel.specs.declared.Took.the-variants.{Holds, Finishes}
 use Rattle.channel.specs.Stages.{added, begun, took}
 use Rattle.channel.specs.Channel.{Bring, View, Open, Room, restaged, stageAfter, partAfter, answerTo, landed, act}
-use Rattle.client.specs.State.{State, view, roomIn}
-use Rattle.client.specs.Events.{Event, Unreadable, Capabilities, Of}
+use Rattle.connection.specs.States.{State, view, roomIn, Steady}
+use Rattle.client.specs.Events.{Event, Unreadable, Capabilities, Of, isOf}
 use Rattle.client.specs.Client.{stepped}
 use Rattle.cutting.specs.Cutting.{isFirst, isStart, blockLen, blockEnd, block, cutPdu, cutAt, cutBuffer}
 use Rattle.cutting.specs.declared.Piece.{Piece}
 use Rattle.cutting.specs.declared.Piece.the-variants.{Pdu}
 use Rattle.cutting.proofs.Answers.{given, at-start, unpacked-cut}
 use Rattle.cutting.proofs.Starts.{start-zero, start-next, start-within}
-use Rattle.cutting.proofs.Blocks.{end-is, end-from, end-within, end-after, length-block, cut-first, cut-data, cut-fits, whole-end,
-    long-first, later-data}
-use Rattle.steps.proofs.Frame.{kept-long}
-use Rattle.steps.specs.States.{Steady, FineEvent, isOf}
+use Rattle.cutting.proofs.Blocks.{end-is, end-from, end-within, end-after, length-block, cut-first, cut-data, cut-fits, whole-end, long-first, later-data}
+use Rattle.connection.proofs.Frame.{kept-long}
+use Rattle.steps.specs.States.{FineEvent}
 use Rattle.steps.proofs.Channels.{step-own, step-other, step-steady}
 use Rattle.steps.proofs.Calm.{steady-sane}
 use Rattle.steps.proofs.Widths.{eventOfRead, encoded-event}
 use Rattle.demands.specs.Trace.{consIf, seen, keep}
 use Rattle.demands.specs.Runs.{Call, after, told, Told, toldTo, ends, eventIn, isEventOf, ownEvents, firstOf}
-use Rattle.demands.specs.Cut.{Cut, cutOf, Cuts, last-one, one-more, CutByUs, CutFromC, NoneRefused, eventOfPdu, cutEvents, toldFor,
-    HandedUpOnce}
+use Rattle.demands.specs.Cut.{Cut, cutOf, Cuts, last-one, one-more, CutByUs, CutFromC, NoneRefused, eventOfPdu, cutEvents, toldFor, HandedUpOnce}
 use Rattle.demands.proofs.Traces.{Input, eventsIn, inputs-events, withFlag, Framed, aloneOuts, aloneFinal, trace-outs, trace-final}
 use Rattle.demands.proofs.Machine.{toldBy, readCall, call-state, fine-call, own-told}
 

@@ -20,8 +20,7 @@ use Rattle.reading.specs.Reading.{readPdu}
 use Rattle.reading.specs.Said.{bytesAt}
 use Rattle.reading.specs.declared.Place.{Place}
 use Rattle.reading.specs.declared.Pdu.{Pdu}
-use Rattle.reading.specs.declared.Pdu.the-variants.{CreateRequest, CreateResponse, DataFirst, Data, Close, CapsRequest, CapsResponse,
-    Refused}
+use Rattle.reading.specs.declared.Pdu.the-variants.{CreateRequest, CreateResponse, DataFirst, Data, Close, CapsRequest, CapsResponse, Refused}
 use Rattle.reading.proofs.Placed.{Placed, placed}
 use Rattle.listeners.specs.Listeners.{goodList}
 use Rattle.channel.specs.declared.Stage.{Stage}
@@ -31,14 +30,12 @@ use Rattle.channel.specs.declared.Offer.{Offer}
 use Rattle.channel.specs.declared.Offer.the-variants.{First, More}
 use Rattle.channel.specs.declared.Took.the-variants.{Bars, Spoils, Holds, Finishes}
 use Rattle.channel.specs.Stages.{added, begun, took}
-use Rattle.channel.specs.Channel.{Act, BadCreate, Create, Bring, Closing, LocalClose, View, Shut, Open, Did, openedRecord, restaged,
-    opening, stageAfter, partAfter, answerTo, landed, act}
+use Rattle.channel.specs.Channel.{Act, BadCreate, Create, Bring, Closing, LocalClose, View, Shut, Open, Did, openedRecord, restaged, opening, stageAfter, partAfter, answerTo, landed, act}
 use Rattle.table.specs.Sound.{goodStage}
 use Rattle.table.proofs.Soundness.{joining-bounds, joining-good}
-use Rattle.client.specs.Events.{Event, Unreadable, Capabilities, Of, createAct, eventOf, eventFor, actFor, carriedBy}
+use Rattle.client.specs.Events.{Event, Unreadable, Capabilities, Of, createAct, eventOf}
 use Rattle.demands.specs.Runs.{Asked, receives, closes, firstOf, eventIn}
-use Rattle.demands.specs.Joining.{Join, Off, Waiting, Gathering, Dead, Brings, NoMessage, StillToCome, Complete, Joined, still,
-    gathered, startsWith, goesOn, joins, broughtBy, brought}
+use Rattle.demands.specs.Joining.{Join, Off, Waiting, Gathering, Dead, Brings, NoMessage, StillToCome, Complete, Joined, still, gathered, startsWith, goesOn, joins, broughtBy, brought}
 use Rattle.demands.proofs.Machine.{roomFlag, toldBy}
 
 -- ---- where a view's joining stands
@@ -229,7 +226,7 @@ unfolding createAct
 create-block n list name pri = choice (λ (a : Act). FineBlock (Of n a)) (goodList list) (λ e. tt) (λ e. tt)
 
 short-blocks : (list pdu : List ℕ) → length pdu ≤ PDU-MAX → (p : Pdu) → Placed pdu p → FineBlock (eventOf list pdu p)
-unfolding eventOf eventFor actFor carriedBy
+unfolding eventOf
 short-blocks list pdu k (CreateRequest n class name) h = create-block n list (bytesAt pdu name) class
 short-blocks list pdu k (CreateResponse n status) h = tt
 short-blocks list pdu k (DataFirst n len block) h = block-fits pdu block h k
@@ -240,7 +237,7 @@ short-blocks list pdu k (CapsResponse version) h = tt
 short-blocks list pdu k (Refused why) h = tt
 
 unread-block : (list pdu : List ℕ) → FineBlock (eventOf list pdu (Refused TooLong))
-unfolding eventOf eventFor actFor carriedBy
+unfolding eventOf
 unread-block list pdu = tt
 
 read-blocks : (list pdu : List ℕ) → FineBlock (eventOf list pdu (readPdu true pdu))

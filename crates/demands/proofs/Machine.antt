@@ -26,23 +26,21 @@ use Rattle.channel.specs.declared.Took.the-variants.{Bars, Spoils, Holds, Finis
 use Rattle.channel.specs.declared.Answer.{Answer}
 use Rattle.channel.specs.declared.Answer.the-variants.{Ready, Opened, Declined, Held, Message, Closed, Ignored, Refused}
 use Rattle.channel.specs.Stages.{took}
-use Rattle.channel.specs.Channel.{Act, BadCreate, Create, Bring, Closing, LocalClose, View, Shut, Open, Room, NoRoom, Spare, Did, opening,
-    answerTo, landed, act}
+use Rattle.channel.specs.Channel.{Act, BadCreate, Create, Bring, Closing, LocalClose, View, Shut, Open, Room, NoRoom, Spare, Did, opening, answerTo, landed, act}
 use Rattle.table.specs.Table.{freePlace, recordAt, withRecord}
 use Rattle.table.proofs.Records.{free-at}
 use Rattle.store.specs.Parts.{part}
-use Rattle.client.specs.State.{State, view, roomIn, wrote, save}
-use Rattle.client.specs.Events.{Event, Unreadable, Capabilities, Of, eventOf}
+use Rattle.connection.specs.States.{State, view, roomIn, wrote, save, Steady, FineAct}
+use Rattle.client.specs.Events.{Event, Unreadable, Capabilities, Of, eventOf, isOf}
 use Rattle.client.specs.Client.{stepped, badCall, Whole, wholeOf, received, locallyClosed}
-use Rattle.client.proofs.Steps.{room-none, room-spare}
+use Rattle.connection.proofs.Views.{room-none, room-spare}
 use Rattle.client.proofs.Calls.{passes}
-use Rattle.steps.specs.States.{Steady, FineAct, FineEvent, ruled, Sane, Calm, isOf}
+use Rattle.steps.specs.States.{FineEvent, ruled, Sane, Calm}
 use Rattle.steps.proofs.Channels.{step-answer, step-reply, step-state, step-own, step-other, step-steady, step-caps}
 use Rattle.steps.proofs.Calm.{sane-steady, steady-sane, calm-step, fine-pdu}
 use Rattle.channel.specs.declared.Concern.the-variants.{NoChannel}
 use Rattle.demands.proofs.Traces.{Framed}
-use Rattle.demands.specs.Runs.{Asked, receives, closes, Call, gives, after, firstOf, handedUp, Told, told, eventIn, isEventOf,
-    fullTable, asksRoom, eventMeetsFull, meetsFull, Running}
+use Rattle.demands.specs.Runs.{Asked, receives, closes, Call, gives, after, firstOf, handedUp, Told, told, eventIn, isEventOf, fullTable, asksRoom, eventMeetsFull, meetsFull, Running}
 
 pub steady : (l : ℕ) (st : State) → Running l st → Steady st
 steady l st g = sane-steady st (g .calm .sane) (g .ready)

@@ -2,10 +2,8 @@
 -- this crate under the name given, over the definitions that the contracts cite; and where its proof is. What a
 -- reader must believe is in specs/. Assumes nothing.
 use Rattle.demands.specs.Demand1.{AnyOrderOfCalls, BadInputGetsItsNumber, ARefusalLeavesAll}
-use Rattle.demands.specs.Demand2.{PdusAreReadSo, PdusAreWrittenSo, StepsAreSo, WhatWeWriteWeReadBack,
-    CutByUsIsHandedUpOnce}
-use Rattle.demands.specs.Demand3.{AConnectionJustMadeReady, TwoOrdersMeanThis, EitherOrderIsTheSame,
-    NothingTwice}
+use Rattle.demands.specs.Demand2.{PdusAreReadSo, PdusAreWrittenSo, StepsAreSo, WhatWeWriteWeReadBack, CutByUsIsHandedUpOnce}
+use Rattle.demands.specs.Demand3.{AConnectionJustMadeReady, TwoOrdersMeanThis, EitherOrderIsTheSame, NothingTwice}
 use Rattle.demands.specs.Useless.{UselessManagersHaveThemNot, right}
 use Rattle.demands.specs.Starred.{Starred}
 use mathlib.Core.Bool.{true}

@@ -21,19 +21,19 @@ use Rattle.channel.specs.declared.Concern.the-variants.{NoChannel}
 use Rattle.channel.specs.declared.Answer.the-variants.{Ready, Refused}
 use Rattle.channel.specs.Channel.{Act, View, Shut, Did, act}
 use Rattle.table.specs.Table.{emptyTable, numberPlace, recordAt, holds}
-use Rattle.client.specs.State.{State, stateOf, viewAt, view}
+use Rattle.connection.specs.States.{State, stateOf, viewAt, view, FineAct}
 use Rattle.client.specs.Events.{Event, Unreadable, Capabilities, Of}
 use Rattle.client.specs.Client.{Stepped, refused, readied, stepped, Whole, wholeOf}
-use Rattle.client.proofs.Steps.{too-early, too-late, made-ready, view-shut}
-use Rattle.steps.specs.States.{FineAct, FineEvent, ruled, Sane, Calm}
+use Rattle.client.proofs.Steps.{too-early, too-late, made-ready}
+use Rattle.connection.proofs.Views.{view-shut}
+use Rattle.steps.specs.States.{FineEvent, ruled, Sane, Calm}
 use Rattle.steps.proofs.Channels.{step-own, step-other, step-steady}
 use Rattle.steps.proofs.Calm.{calm-start, calm-step, sane-steady}
 use Rattle.demands.specs.Trace.{seen}
 use Rattle.demands.specs.Runs.{Call, Told, gives, after, told, handedUp, eventIn, eventsOf, eventMeetsFull, startedOn, Running}
 use Rattle.demands.specs.Joining.{Join, Off, joinsIf}
 use Rattle.demands.specs.Telling.{toldIf, tellsNone}
-use Rattle.demands.specs.Managers.{Manager, ours, Reached, at-first, called, restarted, JustStarted, first-start, new-start,
-    everyTold, put, Sight, atStart, sightNext, readyTold, sightTold, paperStart, shouldTell, Demand2Of}
+use Rattle.demands.specs.Managers.{Manager, ours, Reached, at-first, called, restarted, JustStarted, first-start, new-start, everyTold, put, Sight, atStart, sightNext, readyTold, sightTold, paperStart, shouldTell, Demand2Of}
 use Rattle.demands.proofs.Machine.{steady, roomFlag, toldBy, same-told, call-step, call-state, fine-call, own-told, ruled-flag}
 use Rattle.demands.proofs.Joined.{joinOf, SoundView, FineBlock, call-blocks}
 use Rattle.demands.proofs.Telling.{act-both, act-told}

@@ -1,39 +1,21 @@
--- One outcome for each input, of every public function of the libraries: any two outcomes that its contract permits
--- are equal, in the
--- result and in every byte of each buffer. Each theorem is on the function's own contract as the source states it
--- (`Reads.Post`), so that a
--- loosened `ensures` breaks it; it stands in its crate's proofs/One and is only collected here.
+-- One outcome for each input, of every public function of the libraries: any two outcomes that its contract permits are
+-- equal, in the result and in every byte of each buffer. Each theorem is on the function's own contract as the source states
+-- it (`Reads.Post`), so that a loosened `ensures` breaks it; it stands in its crate's proofs/One and is only collected here.
 -- Assumes nothing.
 pub use Rattle.paper.proofs.One.{number-one as paper-number-one}
-pub use Rattle.lists.proofs.One.{lesser-one as lists-lesser-one, copy-one as lists-copy-one,
-    copy-at-one as lists-copy-at-one, clear-one as lists-clear-one, first-zero-one as lists-first-zero-one}
-pub use Rattle.numbers.proofs.One.{width-one as numbers-width-one, code-one as numbers-code-one,
-    narrow-one as numbers-narrow-one, four-one as numbers-four-one, joined-one as numbers-joined-one,
-    split-one as numbers-split-one, number-one as numbers-number-one, put-one as numbers-put-one,
-    signed-one as numbers-signed-one, unsigned-one as numbers-unsigned-one, status-one as numbers-status-one,
-    status-bytes-one as numbers-status-bytes-one}
-pub use Rattle.reading.proofs.One.{read-one as reading-read-one, number-one as reading-number-one}
-pub use Rattle.laying.proofs.One.{create-request-one as laying-create-request-one,
-    create-response-one as laying-create-response-one, data-first-one as laying-data-first-one,
-    data-one as laying-data-one, close-one as laying-close-one,
-    capabilities-request-one as laying-capabilities-request-one,
-    capabilities-response-one as laying-capabilities-response-one}
-pub use Rattle.writing.proofs.One.{write-create-request-one as writing-write-create-request-one,
-    write-create-response-one as writing-write-create-response-one,
-    write-data-first-one as writing-write-data-first-one, write-data-one as writing-write-data-one,
-    write-close-one as writing-write-close-one,
-    write-capabilities-request-one as writing-write-capabilities-request-one,
-    write-capabilities-response-one as writing-write-capabilities-response-one}
+pub use Rattle.lists.proofs.One.{lesser-one as lists-lesser-one, copy-one as lists-copy-one, copy-at-one as lists-copy-at-one, to-front-one as lists-to-front-one, clear-one as lists-clear-one, first-zero-one as lists-first-zero-one}
+pub use Rattle.numbers.proofs.One.{width-one as numbers-width-one, code-one as numbers-code-one, narrow-one as numbers-narrow-one, four-one as numbers-four-one, joined-one as numbers-joined-one, split-one as numbers-split-one, number-one as numbers-number-one, put-one as numbers-put-one, signed-one as numbers-signed-one, unsigned-one as numbers-unsigned-one, status-one as numbers-status-one, status-bytes-one as numbers-status-bytes-one}
+pub use Rattle.reading.proofs.One.{read-one as reading-read-one}
+pub use Rattle.laying.proofs.One.{create-request-one as laying-create-request-one, create-response-one as laying-create-response-one, data-first-one as laying-data-first-one, data-one as laying-data-one, close-one as laying-close-one, capabilities-request-one as laying-capabilities-request-one, capabilities-response-one as laying-capabilities-response-one}
+pub use Rattle.writing.proofs.One.{write-create-request-one as writing-write-create-request-one, write-create-response-one as writing-write-create-response-one, write-data-first-one as writing-write-data-first-one, write-data-one as writing-write-data-one, write-close-one as writing-write-close-one, write-capabilities-request-one as writing-write-capabilities-request-one, write-capabilities-response-one as writing-write-capabilities-response-one}
 pub use Rattle.cutting.proofs.One.{cut-one as cutting-cut-one, dvc-cut-one as cutting-dvc-cut-one}
 pub use Rattle.listeners.proofs.One.{good-one as listeners-good-one, listed-one as listeners-listed-one}
-pub use Rattle.channel.proofs.One.{take-one as channel-take-one}
-pub use Rattle.table.proofs.One.{blank-one as table-blank-one, empty-one as table-empty-one,
-    find-number-one as table-find-number-one, find-free-one as table-find-free-one, replace-one as table-replace-one,
-    free-one as table-free-one, with-record-one as table-with-record-one, sound-one as table-sound-one}
+pub use Rattle.channel.proofs.One.{take-one as channel-take-one, answers-one as channel-answers-one, act-one as channel-act-one, concerns-one as channel-concerns-one, value-one as channel-value-one}
+pub use Rattle.table.proofs.One.{blank-one as table-blank-one, empty-one as table-empty-one, find-number-one as table-find-number-one, find-free-one as table-find-free-one, find-open-one as table-find-open-one, find-one as table-find-one, put-one as table-put-one, sound-one as table-sound-one}
 pub use Rattle.store.proofs.One.{put-block-one as store-put-block-one, clear-part-one as store-clear-part-one}
-pub use Rattle.client.proofs.One.{start-one as client-start-one, receive-one as client-receive-one,
-    local-close-one as client-local-close-one}
-pub use Rattle.lines.proofs.One.{concern-one as lines-concern-one, value-one as lines-value-one,
-    header-one as lines-header-one, line-one as lines-line-one, cut-line-one as lines-cut-line-one}
-pub use Rattle.records.proofs.One.{whole-one as records-whole-one}
-pub use Rattle.walking.proofs.One.{begin-one as walking-begin-one, walk-one as walking-walk-one}
+pub use Rattle.deciding.proofs.One.{decide-one as deciding-decide-one}
+pub use Rattle.connection.proofs.One.{keep-one as connection-keep-one, place-after-one as connection-place-after-one}
+pub use Rattle.client.proofs.One.{start-one as client-start-one, heard-one as client-heard-one, closing-one as client-closing-one, step-one as client-step-one, receive-one as client-receive-one, local-close-one as client-local-close-one}
+pub use Rattle.lines.proofs.One.{number-one as lines-number-one, text-one as lines-text-one, header-one as lines-header-one, line-one as lines-line-one, cut-line-one as lines-cut-line-one, message-line-one as lines-message-line-one}
+pub use Rattle.records.proofs.One.{whole-one as records-whole-one, due-for-one as records-due-for-one}
+pub use Rattle.walking.proofs.One.{begin-one as walking-begin-one, turn-one as walking-turn-one}

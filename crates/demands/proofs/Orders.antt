@@ -16,20 +16,19 @@ use Rattle.reading.specs.declared.Charges.{Charges}
 use Rattle.reading.specs.declared.Pdu.the-variants.{CapsRequest}
 use Rattle.channel.specs.Channel.{View, Shut}
 use Rattle.table.specs.Table.{emptyTable, holds, numberPlace}
-use Rattle.client.specs.State.{State, stateOf, view}
-use Rattle.client.specs.Events.{Event, Capabilities, eventOf, eventFor, actFor, carriedBy}
+use Rattle.connection.specs.States.{State, stateOf, view}
+use Rattle.client.specs.Events.{Event, Capabilities, eventOf}
 use Rattle.client.specs.Client.{Stepped, started, storeStarted, readied, stepped, badCall}
-use Rattle.client.proofs.Steps.{made-ready, view-shut}
+use Rattle.client.proofs.Steps.{made-ready}
+use Rattle.connection.proofs.Views.{view-shut}
 use Rattle.steps.specs.States.{FineEvent, Calm}
 use Rattle.steps.proofs.Calm.{calm-start, calm-step}
 use Rattle.demands.specs.Trace.{consIf, keep, seen}
-use Rattle.demands.specs.Runs.{receives, Call, after, toldTo, ends, eventIn, isEventOf, ownEvents, meetsFull, fullFlags, startedOn,
-    JustReady, Running}
+use Rattle.demands.specs.Runs.{receives, Call, after, toldTo, ends, eventIn, isEventOf, ownEvents, meetsFull, fullFlags, startedOn, JustReady, Running}
 use Rattle.demands.specs.Joining.{Off, brought, joinWith, handed, once}
 use Rattle.demands.specs.Telling.{toldWith}
 use Rattle.demands.specs.Orders.{TwoOrders, NeverFull, SameEitherWay, SameButPlaces, SameForOne}
-use Rattle.demands.proofs.Traces.{Input, withFlag, eventsIn, flagsIn, trace-inv, trace-outs, same-outs, same-final, inputs-same,
-    inputs-events, inputs-flags, never-seen}
+use Rattle.demands.proofs.Traces.{Input, withFlag, eventsIn, flagsIn, trace-inv, trace-outs, same-outs, same-final, inputs-same, inputs-events, inputs-flags, never-seen}
 use Rattle.demands.proofs.Machine.{readCall, chanNext, chanOut, framed, not-bad, call-state, fine-call}
 use Rattle.demands.proofs.Joined.{AllFine, joinOf, SoundView, call-blocks}
 use Rattle.demands.proofs.Telling.{run-told, with-brings, with-once, unflagged}
@@ -58,7 +57,7 @@ pub record Fresh (st : State) : Type 0 where
 caps-event :
     (list pdu : List ℕ) (version : ℕ) (charges : Charges) → readPdu true pdu ≡ CapsRequest version charges
     → eventOf list pdu (readPdu true pdu) ≡ Capabilities version
-unfolding eventOf eventFor actFor carriedBy
+unfolding eventOf
 caps-event list pdu version charges e = rw e
 
 pub empty-unready : emptyTable .ready ≡ false

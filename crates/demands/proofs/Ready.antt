@@ -12,7 +12,7 @@ use Rattle.numbers.specs.Numbers.{little, valueOf, valueAt}
 use Rattle.reading.specs.Grammar.{noCharges}
 use Rattle.reading.specs.Reading.{readPdu, byCommand, capabilities, byVersion, charged}
 use Rattle.reading.specs.declared.Pdu.the-variants.{CapsRequest}
-use Rattle.client.specs.State.{State}
+use Rattle.connection.specs.States.{State}
 use Rattle.demands.specs.Runs.{receives, Call, after, startedOn, JustReady}
 
 hello : List ℕ

@@ -13,9 +13,8 @@ use Rattle.channel.specs.declared.Decline.the-variants.{Unlisted, Full}
 use Rattle.channel.specs.declared.Answer.{Answer}
 use Rattle.channel.specs.declared.Answer.the-variants.{Ready, Opened, Declined, Held, Message, Closed, Ignored, Refused}
 use Rattle.channel.specs.Stages.{took}
-use Rattle.channel.specs.Channel.{Act, BadCreate, Create, Bring, Closing, LocalClose, View, Shut, Open, Did, opening, answerTo, landed,
-    act}
-use Rattle.client.specs.State.{State, view}
+use Rattle.channel.specs.Channel.{Act, BadCreate, Create, Bring, Closing, LocalClose, View, Shut, Open, Did, opening, answerTo, landed, act}
+use Rattle.connection.specs.States.{State, view}
 use Rattle.client.specs.Events.{Of}
 use Rattle.client.specs.Client.{stepped}
 use Rattle.steps.proofs.Channels.{step-answer}

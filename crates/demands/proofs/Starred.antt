@@ -59,42 +59,32 @@ module _ (n : ℕ) (m : List ℕ) where
   whole blocks r = record { cuts = r .cuts; are-cut = r .are-cut; as-blocks = r .as-blocks }
 
 cuts-1590 : CutInto 5 (zeros 1590) (block-of DATA 0 1590 1592 ∷ [])
-unfolding PDU-MAX MESSAGE-MAX WHOLE-MAX zeros bytesOf widthOf codeFor narrowest narrowBytes headOf dataFirstHead dataFirstBytes dataBytes
-    isFirst
-    headerLen blockLen blockEnd meets isStart block cutPdu cutAt
+unfolding PDU-MAX MESSAGE-MAX WHOLE-MAX zeros bytesOf widthOf codeFor narrowest narrowBytes headOf dataFirstHead dataFirstBytes dataBytes isFirst headerLen blockLen blockEnd meets isStart block cutPdu cutAt
 cuts-1590 =
     whole 5 (zeros 1590) _
     (last 5 (zeros 1590) 0 1592 1590 DATA refl refl (lit≤ tt))
 
 cuts-1591 : CutInto 5 (zeros 1591) (block-of DATA-FIRST 0 1591 1595 ∷ [])
-unfolding PDU-MAX MESSAGE-MAX WHOLE-MAX zeros bytesOf widthOf codeFor narrowest narrowBytes headOf dataFirstHead dataFirstBytes dataBytes
-    isFirst
-    headerLen blockLen blockEnd meets isStart block cutPdu cutAt
+unfolding PDU-MAX MESSAGE-MAX WHOLE-MAX zeros bytesOf widthOf codeFor narrowest narrowBytes headOf dataFirstHead dataFirstBytes dataBytes isFirst headerLen blockLen blockEnd meets isStart block cutPdu cutAt
 cuts-1591 =
     whole 5 (zeros 1591) _
     (last 5 (zeros 1591) 0 1595 1591 DATA-FIRST refl refl (lit≤ tt))
 
 cuts-1596 : CutInto 5 (zeros 1596) (block-of DATA-FIRST 0 1596 1600 ∷ [])
-unfolding PDU-MAX MESSAGE-MAX WHOLE-MAX zeros bytesOf widthOf codeFor narrowest narrowBytes headOf dataFirstHead dataFirstBytes dataBytes
-    isFirst
-    headerLen blockLen blockEnd meets isStart block cutPdu cutAt
+unfolding PDU-MAX MESSAGE-MAX WHOLE-MAX zeros bytesOf widthOf codeFor narrowest narrowBytes headOf dataFirstHead dataFirstBytes dataBytes isFirst headerLen blockLen blockEnd meets isStart block cutPdu cutAt
 cuts-1596 =
     whole 5 (zeros 1596) _
     (last 5 (zeros 1596) 0 1600 1596 DATA-FIRST refl refl (lit≤ tt))
 
 cuts-1597 : CutInto 5 (zeros 1597) (block-of DATA-FIRST 0 1596 1600 ∷ block-of DATA 1596 1 3 ∷ [])
-unfolding PDU-MAX MESSAGE-MAX WHOLE-MAX zeros bytesOf widthOf codeFor narrowest narrowBytes headOf dataFirstHead dataFirstBytes dataBytes
-    isFirst
-    headerLen blockLen blockEnd meets isStart block cutPdu cutAt
+unfolding PDU-MAX MESSAGE-MAX WHOLE-MAX zeros bytesOf widthOf codeFor narrowest narrowBytes headOf dataFirstHead dataFirstBytes dataBytes isFirst headerLen blockLen blockEnd meets isStart block cutPdu cutAt
 cuts-1597 =
     whole 5 (zeros 1597) _
     (more 5 (zeros 1597) 0 1600 1596 DATA-FIRST _ refl refl (lit< tt)
     (last 5 (zeros 1597) 1596 3 1597 DATA refl refl (lit≤ tt)))
 
 cuts-4096 : CutInto 5 (zeros 4096) (block-of DATA-FIRST 0 1596 1600 ∷ block-of DATA 1596 1598 1600 ∷ block-of DATA 3194 902 904 ∷ [])
-unfolding PDU-MAX MESSAGE-MAX WHOLE-MAX zeros bytesOf widthOf codeFor narrowest narrowBytes headOf dataFirstHead dataFirstBytes dataBytes
-    isFirst
-    headerLen blockLen blockEnd meets isStart block cutPdu cutAt
+unfolding PDU-MAX MESSAGE-MAX WHOLE-MAX zeros bytesOf widthOf codeFor narrowest narrowBytes headOf dataFirstHead dataFirstBytes dataBytes isFirst headerLen blockLen blockEnd meets isStart block cutPdu cutAt
 cuts-4096 =
     whole 5 (zeros 4096) _
     (more 5 (zeros 4096) 0 1600 1596 DATA-FIRST _ refl refl (lit< tt)
@@ -102,8 +92,6 @@ cuts-4096 =
     (last 5 (zeros 4096) 3194 904 4096 DATA refl refl (lit≤ tt))))
 
 pub the-starred-numbers : Starred
-unfolding PDU-MAX MESSAGE-MAX LIST-MAX zeros place little valueOf valueAt widthOf closing afterNumber badLengthWidth numbered byCommand
-    readPdu names
-    ended noneEmpty sameBytes isOneOf allNames goodList isListed createAct act added begun took reading answering taking CaseHolds starred Starred
+unfolding PDU-MAX MESSAGE-MAX LIST-MAX zeros place little valueOf valueAt widthOf closing afterNumber badLengthWidth numbered byCommand readPdu names ended noneEmpty sameBytes isOneOf allNames goodList isListed createAct act added begun took reading answering taking CaseHolds starred Starred
 the-starred-numbers =
     (refl, (refl, (refl, (refl, (refl, (refl, (refl, (cuts-1590, (cuts-1591, (cuts-1596, (cuts-1597, (cuts-4096, (refl, (refl, tt))))))))))))))

@@ -25,14 +25,12 @@ use Rattle.channel.specs.declared.Concern.the-variants.{NoChannel, Channel}
 use Rattle.channel.specs.declared.Answer.{Answer}
 use Rattle.channel.specs.declared.Answer.the-variants.{Ready, Opened, Declined, Held, Message, Closed, Ignored, Refused}
 use Rattle.channel.specs.Stages.{added, begun, took}
-use Rattle.channel.specs.Channel.{Act, BadCreate, Create, Bring, Closing, LocalClose, View, Shut, Open, Room, Did, did, opening, answerTo,
-    landed, act}
+use Rattle.channel.specs.Channel.{Act, BadCreate, Create, Bring, Closing, LocalClose, View, Shut, Open, Room, Did, did, opening, answerTo, landed, act}
 use Rattle.table.specs.Sound.{goodStage}
 use Rattle.table.proofs.Soundness.{joining-bounds}
 use Rattle.client.specs.Events.{Event, Unreadable, Capabilities, Of}
 use Rattle.demands.specs.Runs.{Told, firstOf}
-use Rattle.demands.specs.Joining.{Join, Off, Waiting, Gathering, Dead, Brings, NoMessage, StillToCome, Complete, still, gathered,
-    startsWith, goesOn, joins, wantsRoom, joinsIf, flag, flags, joinWith, broughtBy, brought, once, handed}
+use Rattle.demands.specs.Joining.{Join, Off, Waiting, Gathering, Dead, Brings, NoMessage, StillToCome, Complete, still, gathered, startsWith, goesOn, joins, wantsRoom, joinsIf, flag, flags, joinWith, broughtBy, brought, once, handed}
 use Rattle.demands.specs.Telling.{Said, says, whyNot, answered, stepSays, saysIf, handsUp, toldIf, tellsNone, toldWith}
 use Rattle.demands.proofs.Traces.{Input, eventsIn, flagsIn, aloneOuts}
 use Rattle.demands.proofs.Machine.{roomFlag, toldBy, chanNext, chanOut, same-told}

@@ -9,17 +9,15 @@ use lib.Dec.{eqb}
 use lib.ListN.{length}
 use Rattle.paper.specs.Sizes.{STORE}
 use Rattle.channel.specs.Channel.{Act}
-use Rattle.client.specs.State.{State}
-use Rattle.client.specs.Events.{Event, Unreadable, Capabilities, Of}
+use Rattle.connection.specs.States.{State}
+use Rattle.client.specs.Events.{Event, Unreadable, Capabilities, Of, isOf}
 use Rattle.client.specs.Client.{stepped}
-use Rattle.steps.specs.States.{isOf}
 use Rattle.demands.specs.Trace.{consIf, keep, seen}
 use Rattle.demands.specs.Runs.{Call, Told, eventIn, isEventOf, eventsOf, ownEvents, eventMeetsFull}
 use Rattle.demands.specs.Joining.{Join, Off, joins, joinsIf, brought, handed}
 use Rattle.demands.specs.Telling.{toldIf, toldWith}
 use Rattle.demands.specs.Orders.{TwoOrders}
-use Rattle.demands.specs.Managers.{Manager, ours, JustStarted, everyTold, tellsTo, put, Sight, atStart, sightNext, sightTold,
-    paperStart, shouldTell, nobodys, isNobodys, Roomy, strayUp, AllEmpty, OrdersAlike, Orders, Demand2Of, Demand3Of}
+use Rattle.demands.specs.Managers.{Manager, ours, JustStarted, everyTold, tellsTo, put, Sight, atStart, sightNext, sightTold, paperStart, shouldTell, nobodys, isNobodys, Roomy, strayUp, AllEmpty, OrdersAlike, Orders, Demand2Of, Demand3Of}
 use Rattle.demands.proofs.Machine.{readCall}
 use Rattle.demands.proofs.Telling.{with-brings, with-once}
 use Rattle.demands.proofs.Managers.{sight-in, ours-demand-2}

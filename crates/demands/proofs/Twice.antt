@@ -8,10 +8,9 @@ use Prim.Native.Nat.{ℕ}
 use Rattle.paper.specs.Sizes.{PART}
 use Rattle.lists.specs.Bytes.{zeros}
 use Rattle.channel.specs.Channel.{Create, View, Shut, Open, Room, Did, openedRecord, opening, act}
-use Rattle.client.specs.State.{State, view, roomIn}
+use Rattle.connection.specs.States.{State, view, roomIn, FineAct}
 use Rattle.client.specs.Events.{Event, Of, closeAct}
 use Rattle.client.specs.Client.{stepped}
-use Rattle.steps.specs.States.{FineAct}
 use Rattle.steps.proofs.Channels.{step-own}
 use Rattle.demands.specs.Runs.{Call, after, toldTo, ends, eventIn, ownEvents, eventMeetsFull, fullFlags, JustReady, Running}
 use Rattle.demands.specs.Joining.{Off, brought}

@@ -8,16 +8,14 @@ use mathlib.Core.List.{List, [], _∷_}
 use Rattle.paper.specs.declared.Refusal.{Refusal}
 use Rattle.lists.proofs.Cases.{choice}
 use Rattle.channel.specs.Channel.{Act, BadCreate, Create, Bring, Closing, LocalClose}
-use Rattle.client.specs.State.{State}
+use Rattle.connection.specs.States.{State}
 use Rattle.client.specs.Events.{Event, Unreadable, Capabilities, Of}
 use Rattle.client.specs.Client.{stepped}
 use Rattle.demands.specs.Runs.{Call, Told, eventIn, eventsOf, eventMeetsFull}
 use Rattle.demands.specs.Joining.{Join, Off, Waiting, Gathering, Dead, Brings, NoMessage, StillToCome, Complete, joins}
 use Rattle.demands.specs.Telling.{whyNot, answered, stepSays, saysIf, toldIf}
-use Rattle.demands.specs.Managers.{Manager, JustStarted, everyTold, Sight, atStart, sightNext, sightTold, paperStart, shouldTell,
-    Roomy, Demand3Of}
-use Rattle.demands.specs.Useless.{isFull, Beside, fresh, besideNext, managerBy, With, warpNext, warpTold, warped, forget, always,
-    respelled, noted, from-then, spoilsAfter, doubleTold, untilFull, neverDeclines, relevelTold, wrongLevel}
+use Rattle.demands.specs.Managers.{Manager, JustStarted, everyTold, Sight, atStart, sightNext, sightTold, paperStart, shouldTell, Roomy, Demand3Of}
+use Rattle.demands.specs.Useless.{isFull, Beside, fresh, besideNext, managerBy, With, warpNext, warpTold, warped, forget, always, respelled, noted, from-then, spoilsAfter, doubleTold, untilFull, neverDeclines, relevelTold, wrongLevel}
 use Rattle.demands.proofs.Third.{now, sight, RightOnceReady, orders}
 use Rattle.demands.proofs.ByFlags.{runBy, fullFrom, roomy-run, should-by, told-by, always-fresh, respoken, warped-by}
 

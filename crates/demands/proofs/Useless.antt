@@ -16,8 +16,7 @@ use Rattle.lists.specs.Bytes.{zeros}
 use Rattle.lists.specs.Places.{place}
 use Rattle.lists.proofs.Cases.{true-not-false}
 use Rattle.numbers.specs.Numbers.{little, valueOf, valueAt, widthOf}
-use Rattle.reading.specs.Reading.{namedFor, createRequest, dataFirst, closing, afterNumber, badLengthWidth, numbered, capabilities,
-    byVersion, charged, byCommand, readPdu}
+use Rattle.reading.specs.Reading.{namedFor, createRequest, dataFirst, closing, afterNumber, badLengthWidth, numbered, capabilities, byVersion, charged, byCommand, readPdu}
 use Rattle.reading.specs.Said.{bytesAt}
 use Rattle.laying.specs.Laying.{createResponseBytes, closeBytes, capsResponseBytes}
 use Rattle.listeners.specs.Listeners.{names, ended, noneEmpty, sameBytes, isOneOf, allNames, goodList, isListed}
@@ -30,26 +29,17 @@ use Rattle.channel.specs.Stages.{added, begun, took}
 use Rattle.channel.specs.Channel.{Create, Bring, Closing, openedRecord, restaged, opening, stageAfter, partAfter, answerTo, landed, act}
 use Rattle.channel.specs.Answers.{numberOf, declineNumber}
 use Rattle.table.specs.Table.{emptyTable, holds, isFree, numberPlace, freePlace, recordAt, withRecord}
-use Rattle.client.specs.State.{State, viewAt, view, roomAt, roomIn, wrote, save}
-use Rattle.client.specs.Events.{Event, Unreadable, Capabilities, Of, createAct, eventOf, eventFor, actFor, carriedBy}
+use Rattle.connection.specs.States.{State, viewAt, view, roomAt, roomIn, wrote, save}
+use Rattle.client.specs.Events.{Event, Unreadable, Capabilities, Of, createAct, eventOf, isOf}
 use Rattle.client.specs.Client.{finished, acted, readied, stepped}
-use Rattle.steps.specs.States.{isOf}
 use Rattle.demands.specs.Trace.{consIf, keep, final, seen}
-use Rattle.demands.specs.Runs.{Asked, receives, Call, Told, eventIn, isEventOf, eventsOf, ownEvents, fullTable, asksRoom,
-    eventMeetsFull}
-use Rattle.demands.specs.Joining.{Off, Gathering, Brings, NoMessage, StillToCome, Complete, gathered, startsWith, goesOn, joins,
-    joinsIf, joinWith, joinAll, broughtBy, brought, once, handed}
+use Rattle.demands.specs.Runs.{Asked, receives, Call, Told, eventIn, isEventOf, eventsOf, ownEvents, fullTable, asksRoom, eventMeetsFull}
+use Rattle.demands.specs.Joining.{Off, Gathering, Brings, NoMessage, StillToCome, Complete, gathered, startsWith, goesOn, joins, joinsIf, joinWith, joinAll, broughtBy, brought, once, handed}
 use Rattle.demands.specs.Telling.{whyNot, answered, stepSays, saysIf, handsUp, toldIf, tellsNone}
-use Rattle.demands.specs.Managers.{Manager, Reached, at-first, called, JustStarted, first-start, new-start, everyTold, tellsTo,
-    Sight, atStart, sightNext, sightTold, readyTold, paperStart, shouldTell, nobodys, isNobodys, Roomy, strayUp, AllEmpty, Orders,
-    Demand2Of, Demand3Of}
-use Rattle.demands.specs.Useless.{isNo, isMessage, isHeld, isFull, OnlyNo, refusesAll, Always, fixed, Beside, fresh, managerBy,
-    right, With, warpNext, warpTold, warped, forget, always, respelled, noted, from-then, spoilsAfter, blankTold, storeless, firstOnly,
-    recountTold, invents, doubleTold, twice, keptMemory, keptStand, keptNext, keeps, lostBy, disturbNext, disturbs, lastTold, replays,
-    replayer, untilFull, neverDeclines, inventsLater, relevelTold, wrongLevel, keptOver, goesOnOver, HasNeither}
+use Rattle.demands.specs.Managers.{Manager, Reached, at-first, called, JustStarted, first-start, new-start, everyTold, tellsTo, Sight, atStart, sightNext, sightTold, readyTold, paperStart, shouldTell, nobodys, isNobodys, Roomy, strayUp, AllEmpty, Orders, Demand2Of, Demand3Of}
+use Rattle.demands.specs.Useless.{isNo, isMessage, isHeld, isFull, OnlyNo, refusesAll, Always, fixed, Beside, fresh, managerBy, right, With, warpNext, warpTold, warped, forget, always, respelled, noted, from-then, spoilsAfter, blankTold, storeless, firstOnly, recountTold, invents, doubleTold, twice, keptMemory, keptStand, keptNext, keeps, lostBy, disturbNext, disturbs, lastTold, replays, replayer, untilFull, neverDeclines, inventsLater, relevelTold, wrongLevel, keptOver, goesOnOver, HasNeither}
 use Rattle.demands.proofs.Third.{own-map, pick, seen-pick, seen-map, marks, nobody-marks, tail, two-gives-three}
-use Rattle.demands.proofs.ByFlags.{runBy, finalBy, fullFrom, roomy-run, should-by, calls-by, told-by, comes-to, respoken,
-    warped-by}
+use Rattle.demands.proofs.ByFlags.{runBy, finalBy, fullFrom, roomy-run, should-by, calls-by, told-by, comes-to, respoken, warped-by}
 
 -- ---- the runs
 
@@ -124,22 +114,15 @@ many-events =
     ∷ []
 
 hello-read : eventIn (hello .asked) ≡ Capabilities 3
-unfolding hello asks PUMP call eventIn eventOf eventFor actFor carriedBy readPdu byCommand capabilities byVersion charged little valueOf
-    valueAt PDU-MAX
+unfolding hello asks PUMP call eventIn eventOf readPdu byCommand capabilities byVersion charged little valueOf valueAt PDU-MAX
 hello-read = refl
 
 short-read : eventsOf short ≡ short-events
-unfolding short short-events opens asks PUMP call eventIn eventOf eventFor actFor carriedBy createAct readPdu byCommand numbered
-    badLengthWidth
-    afterNumber closing dataFirst createRequest namedFor bytesAt little valueOf valueAt widthOf place names ended noneEmpty sameBytes isOneOf
-    allNames goodList isListed PDU-MAX LIST-MAX
+unfolding short short-events opens asks PUMP call eventIn eventOf createAct readPdu byCommand numbered badLengthWidth afterNumber closing dataFirst createRequest namedFor bytesAt little valueOf valueAt widthOf place names ended noneEmpty sameBytes isOneOf allNames goodList isListed PDU-MAX LIST-MAX
 short-read = refl
 
 many-read : eventsOf many ≡ many-events
-unfolding many many-events opened-event opens asks PUMP call eventIn eventOf eventFor actFor carriedBy createAct readPdu byCommand
-    numbered
-    badLengthWidth afterNumber closing dataFirst createRequest namedFor bytesAt little valueOf valueAt widthOf place names ended noneEmpty
-    sameBytes isOneOf allNames goodList isListed PDU-MAX LIST-MAX
+unfolding many many-events opened-event opens asks PUMP call eventIn eventOf createAct readPdu byCommand numbered badLengthWidth afterNumber closing dataFirst createRequest namedFor bytesAt little valueOf valueAt widthOf place names ended noneEmpty sameBytes isOneOf allNames goodList isListed PDU-MAX LIST-MAX
 many-read = refl
 
 with-hello : (xs : List Call) (es : List Event) → eventsOf xs ≡ es → eventsOf (hello ∷ xs) ≡ Capabilities 3 ∷ es
@@ -147,20 +130,14 @@ with-hello xs es e = ap (λ (x : Event). x ∷ eventsOf xs) hello-read ∙ ap (�
 
 -- the paper's flags in them
 short-roomy : Roomy paperStart (Capabilities 3 ∷ short-events)
-unfolding short-events paperStart readied stepped acted finished save wrote view viewAt roomIn roomAt numberPlace freePlace recordAt
-    withRecord
-    emptyTable holds isFree place act landed stageAfter partAfter answerTo restaged took begun added opening openedRecord eventMeetsFull asksRoom
-    fullTable PARTS MESSAGE-MAX
+unfolding short-events paperStart readied stepped acted finished save wrote view viewAt roomIn roomAt numberPlace freePlace recordAt withRecord emptyTable holds isFree place act landed stageAfter partAfter answerTo restaged took begun added opening openedRecord eventMeetsFull asksRoom fullTable PARTS MESSAGE-MAX
 short-roomy = (refl, (refl, (refl, (refl, (refl, (refl, (refl, (refl, (refl, (refl, (refl, (refl, (refl, tt)))))))))))))
 
 many-flags :
     fullFrom paperStart (Capabilities 3 ∷ many-events)
     ≡ false ∷ false ∷ false ∷ false ∷ false ∷ false ∷ false ∷ false ∷ false ∷ false ∷ false ∷ false ∷ false ∷ false ∷ false ∷ false
     ∷ false ∷ true ∷ false ∷ []
-unfolding many-events opened-event paperStart readied stepped acted finished save wrote view viewAt roomIn roomAt numberPlace freePlace
-    recordAt
-    withRecord emptyTable holds isFree place act landed stageAfter partAfter answerTo restaged took begun added opening openedRecord eventMeetsFull
-    asksRoom fullTable PARTS MESSAGE-MAX
+unfolding many-events opened-event paperStart readied stepped acted finished save wrote view viewAt roomIn roomAt numberPlace freePlace recordAt withRecord emptyTable holds isFree place act landed stageAfter partAfter answerTo restaged took begun added opening openedRecord eventMeetsFull asksRoom fullTable PARTS MESSAGE-MAX
 many-flags = refl
 
 -- ---- what should be told in them
@@ -201,15 +178,11 @@ many-told =
     ∷ []
 
 short-run : runBy sightNext sightTold atStart (Capabilities 3 ∷ short-events) [] ≡ short-told
-unfolding short-told short-events replies hands opened-told sightNext sightTold toldIf saysIf joinsIf handsUp stepSays answered whyNot
-    joins
-    startsWith goesOn gathered MESSAGE-MAX
+unfolding short-told short-events replies hands opened-told sightNext sightTold toldIf saysIf joinsIf handsUp stepSays answered whyNot joins startsWith goesOn gathered MESSAGE-MAX
 short-run = refl
 
 many-run : runBy sightNext sightTold atStart (Capabilities 3 ∷ many-events) (fullFrom paperStart (Capabilities 3 ∷ many-events)) ≡ many-told
-unfolding many-told many-events opened-event replies hands opened-told sightNext sightTold toldIf saysIf joinsIf handsUp stepSays answered
-    whyNot
-    joins startsWith goesOn gathered MESSAGE-MAX
+unfolding many-told many-events opened-event replies hands opened-told sightNext sightTold toldIf saysIf joinsIf handsUp stepSays answered whyNot joins startsWith goesOn gathered MESSAGE-MAX
 many-run = ap (runBy sightNext sightTold atStart (Capabilities 3 ∷ many-events)) many-flags
 
 -- what they bring on 5
@@ -486,18 +459,14 @@ invents-later-not-3 count d =
 
 -- 7: the bytes from before the close
 pub keeps-not-3 : Demand3Of keeps → ⊥
-unfolding keeps keptNext keptStand keptMemory short-events short-brings broughtBy sightNext sightTold toldIf saysIf joinsIf handsUp
-    stepSays
-    answered whyNot joins startsWith goesOn gathered MESSAGE-MAX
+unfolding keeps keptNext keptStand keptMemory short-events short-brings broughtBy sightNext sightTold toldIf saysIf joinsIf handsUp stepSays answered whyNot joins startsWith goesOn gathered MESSAGE-MAX
 keeps-not-3 d =
     let z : _≡_ {A = ℕ} 10 9 = ap (weight-at 8) (three-brings _ keptNext (λ full w e. sightTold full (w .sight) e) d) in
     omega arith
 
 -- 8: what 5 had gathered is lost
 pub disturbs-not-3 : Demand3Of disturbs → ⊥
-unfolding disturbs disturbNext lostBy short-events short-brings broughtBy sightNext sightTold toldIf saysIf joinsIf handsUp stepSays
-    answered
-    whyNot joins startsWith goesOn gathered MESSAGE-MAX
+unfolding disturbs disturbNext lostBy short-events short-brings broughtBy sightNext sightTold toldIf saysIf joinsIf handsUp stepSays answered whyNot joins startsWith goesOn gathered MESSAGE-MAX
 disturbs-not-3 d =
     let z : _≡_ {A = ℕ} 2 1 = ap (weight-at 3) (three-brings atStart disturbNext sightTold d) in
     omega arith
@@ -537,9 +506,7 @@ wrong-level-not-2 d =
 
 -- 11: the seventeenth is opened
 pub never-declines-not-2 : Demand2Of neverDeclines → ⊥
-unfolding neverDeclines many-events opened-event many-told replies opened-told numberOf declineNumber sightNext sightTold toldIf saysIf
-    joinsIf handsUp stepSays
-    answered whyNot joins startsWith goesOn gathered MESSAGE-MAX
+unfolding neverDeclines many-events opened-event many-told replies opened-told numberOf declineNumber sightNext sightTold toldIf saysIf joinsIf handsUp stepSays answered whyNot joins startsWith goesOn gathered MESSAGE-MAX
 never-declines-not-2 d =
     let z : _≡_ {A = ℕ} 0 2 = ap (number-at 17) (tells-right atStart (λ full. sightNext false) (λ full. sightTold false) d many many-events many-read ∙ many-run) in
     omega arith
@@ -553,18 +520,12 @@ before-events : List Event
 before-events = Capabilities 3 ∷ Of 5 (Create true 0) ∷ Of 5 (Bring (First 4) (1 ∷ [])) ∷ []
 
 before-read : eventsOf before ≡ before-events
-unfolding before before-events hello opens asks PUMP call eventIn eventOf eventFor actFor carriedBy createAct readPdu byCommand
-    capabilities byVersion
-    charged numbered badLengthWidth afterNumber dataFirst createRequest namedFor bytesAt little valueOf valueAt widthOf place names ended noneEmpty
-    sameBytes isOneOf allNames goodList isListed PDU-MAX LIST-MAX
+unfolding before before-events hello opens asks PUMP call eventIn eventOf createAct readPdu byCommand capabilities byVersion charged numbered badLengthWidth afterNumber dataFirst createRequest namedFor bytesAt little valueOf valueAt widthOf place names ended noneEmpty sameBytes isOneOf allNames goodList isListed PDU-MAX LIST-MAX
 before-read = refl
 
 -- it stands in the middle of a message
 before-flags : fullFrom paperStart before-events ≡ false ∷ false ∷ false ∷ []
-unfolding before-events paperStart readied stepped acted finished save wrote view viewAt roomIn roomAt numberPlace freePlace recordAt
-    withRecord
-    emptyTable holds isFree place act landed stageAfter partAfter answerTo restaged took begun added opening openedRecord eventMeetsFull asksRoom
-    fullTable PARTS MESSAGE-MAX
+unfolding before-events paperStart readied stepped acted finished save wrote view viewAt roomIn roomAt numberPlace freePlace recordAt withRecord emptyTable holds isFree place act landed stageAfter partAfter answerTo restaged took begun added opening openedRecord eventMeetsFull asksRoom fullTable PARTS MESSAGE-MAX
 before-flags = refl
 
 at-the-end : Beside Sight
@@ -586,15 +547,11 @@ then-events : List Event
 then-events = Capabilities 3 ∷ Of 5 (Bring More (9 ∷ [])) ∷ []
 
 then-read : eventsOf (hello ∷ behind ∷ []) ≡ then-events
-unfolding then-events behind hello asks PUMP call eventIn eventOf eventFor actFor carriedBy readPdu byCommand capabilities byVersion
-    charged numbered
-    badLengthWidth afterNumber bytesAt little valueOf valueAt widthOf PDU-MAX
+unfolding then-events behind hello asks PUMP call eventIn eventOf readPdu byCommand capabilities byVersion charged numbered badLengthWidth afterNumber bytesAt little valueOf valueAt widthOf PDU-MAX
 then-read = refl
 
 then-roomy : Roomy paperStart then-events
-unfolding then-events paperStart readied stepped acted finished save wrote view viewAt roomIn roomAt numberPlace freePlace recordAt
-    withRecord
-    emptyTable holds isFree place act eventMeetsFull asksRoom fullTable PARTS
+unfolding then-events paperStart readied stepped acted finished save wrote view viewAt roomIn roomAt numberPlace freePlace recordAt withRecord emptyTable holds isFree place act eventMeetsFull asksRoom fullTable PARTS
 then-roomy = (refl, (refl, tt))
 
 then-roomy-calls : Roomy paperStart (eventsOf (hello ∷ behind ∷ []))

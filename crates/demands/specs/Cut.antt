@@ -11,7 +11,7 @@ use Rattle.channel.specs.declared.Record.{Record}
 use Rattle.channel.specs.declared.Stage.the-variants.{Idle}
 use Rattle.channel.specs.declared.Answer.the-variants.{Held, Message}
 use Rattle.channel.specs.Channel.{Open, restaged}
-use Rattle.client.specs.State.{State, view}
+use Rattle.connection.specs.States.{State, view}
 use Rattle.client.specs.Events.{Event, eventOf}
 use Rattle.cutting.specs.Cutting.{cutAt, cutBuffer, packed, unpacked}
 use Rattle.cutting.specs.declared.Piece.{Piece}

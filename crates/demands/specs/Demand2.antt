@@ -13,10 +13,8 @@ use Rattle.lists.specs.Bytes.{zeros}
 use Rattle.numbers.specs.Numbers.{Bytes, NUMBERS, widthOf, codeFor, narrowest}
 use Rattle.reading.specs.declared.Charges.{Charges}
 use Rattle.reading.specs.Reading.{readPdu}
-use Rattle.reading.specs.Grammar.{Value, create-request, create-response, data-first, data-block, close,
-    capabilities-request, capabilities-response, SmallCharges, NoZero, Encodes, Exactly}
-use Rattle.laying.specs.Laying.{createRequestBytes, createResponseBytes, dataFirstBytes, dataBytes, closeBytes,
-    capsRequestBytes, capsResponseBytes}
+use Rattle.reading.specs.Grammar.{Value, create-request, create-response, data-first, data-block, close, capabilities-request, capabilities-response, SmallCharges, NoZero, Encodes, Exactly}
+use Rattle.laying.specs.Laying.{createRequestBytes, createResponseBytes, dataFirstBytes, dataBytes, closeBytes, capsRequestBytes, capsResponseBytes}
 use Rattle.writing.specs.Writing.{badRequest, badVersion, badCapabilities}
 use Rattle.writing.specs.ReadBack.{ReadsBack}
 use Rattle.channel.specs.declared.Record.{Record}
@@ -25,10 +23,10 @@ use Rattle.channel.specs.Channel.{Act, Create, Shut, Open, blank, openedRecord}
 use Rattle.table.specs.declared.Table.{Table}
 use Rattle.table.specs.Table.{emptyTable, numberPlace, recordAt}
 use Rattle.store.specs.Parts.{part}
-use Rattle.client.specs.State.{State, view}
-use Rattle.client.specs.Events.{Event, Of, closeAct, eventOf}
+use Rattle.connection.specs.States.{State, view, Steady, FineAct}
+use Rattle.client.specs.Events.{Event, Of, closeAct, eventOf, isOf}
 use Rattle.client.specs.Client.{stepped, received, started, storeStarted}
-use Rattle.steps.specs.States.{Steady, FineAct, FineEvent, isOf, ruled}
+use Rattle.steps.specs.States.{FineEvent, ruled}
 use Rattle.demands.specs.Runs.{Call, after, eventIn, ownEvents, eventMeetsFull, Running}
 use Rattle.demands.specs.Cut.{Cut, CutByUs, CutFromC, NoneRefused, cutEvents, HandedUpOnce}
 use Rattle.demands.specs.Managers.{ours, Demand2Of}
@@ -128,7 +126,7 @@ pub record WhatWeWriteWeReadBack : Type 0 where
   pub capabilities-request :
       (version : ℕ) (charges : Charges) → SmallCharges charges
       → ReadsBack true (badCapabilities version charges) (capsRequestBytes version charges)
-        (capabilities-request version charges)
+      (capabilities-request version charges)
   pub capabilities-response :
       (version : ℕ) → ReadsBack false (badVersion version) (capsResponseBytes version) (capabilities-response version)
 

@@ -15,12 +15,12 @@ use Rattle.laying.specs.Laying.{capsResponseBytes}
 use Rattle.channel.specs.declared.Concern.the-variants.{NoChannel}
 use Rattle.channel.specs.declared.Answer.the-variants.{Ready, Refused}
 use Rattle.table.specs.Table.{emptyTable}
-use Rattle.client.specs.State.{State, stateOf}
+use Rattle.connection.specs.States.{State, stateOf}
 use Rattle.client.specs.Events.{Event, Unreadable, Capabilities, Of}
-use Rattle.client.specs.Client.{OUR-VERSION, stepped}
+use Rattle.channel.specs.Turns.{OUR-VERSION}
+use Rattle.client.specs.Client.{stepped}
 use Rattle.demands.specs.Trace.{seen, Never}
-use Rattle.demands.specs.Runs.{Call, Told, after, told, eventIn, isEventOf, eventsOf, ownEvents, eventMeetsFull,
-    startedOn}
+use Rattle.demands.specs.Runs.{Call, Told, after, told, eventIn, isEventOf, eventsOf, ownEvents, eventMeetsFull, startedOn}
 use Rattle.demands.specs.Joining.{Join, Off, joinsIf, joinAll, brought, once, handed}
 use Rattle.demands.specs.Orders.{TwoOrders}
 use Rattle.demands.specs.Telling.{toldIf, tellsNone}

@@ -2,8 +2,8 @@
 use Prim.Native.Nat.{ℕ}
 use mathlib.Core.Path.{_≡_}
 use mathlib.Core.List.{List, map}
-use Rattle.client.specs.State.{State, view}
-use Rattle.steps.specs.States.{FreePartsAreZero, FreeRecordsAreBlank}
+use Rattle.connection.specs.States.{State, view, FreePartsAreZero}
+use Rattle.steps.specs.States.{FreeRecordsAreBlank}
 use Rattle.demands.specs.Trace.{Never}
 use Rattle.demands.specs.Runs.{Call, after, toldTo, ends, ownEvents, meetsFull}
 use Rattle.demands.specs.Joining.{Off, brought, joinAll, once, handed}

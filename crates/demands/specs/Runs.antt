@@ -11,14 +11,13 @@ use Rattle.reading.specs.Reading.{readPdu}
 use Rattle.reading.specs.declared.Charges.{Charges}
 use Rattle.reading.specs.declared.Pdu.the-variants.{CapsRequest}
 use Rattle.channel.specs.declared.Answer.{Answer}
-use Rattle.channel.specs.declared.Answer.the-variants.{Ready, Opened, Declined, Held, Message, Closed, Ignored,
-    Refused}
+use Rattle.channel.specs.declared.Answer.the-variants.{Ready, Opened, Declined, Held, Message, Closed, Ignored, Refused}
 use Rattle.channel.specs.Channel.{Act, BadCreate, Create, Bring, Closing, LocalClose, View, Shut, Open}
 use Rattle.table.specs.Table.{freePlace}
-use Rattle.client.specs.State.{State, stateOf, view}
-use Rattle.client.specs.Events.{Event, Unreadable, Capabilities, Of, eventOf}
+use Rattle.connection.specs.States.{State, stateOf, view}
+use Rattle.client.specs.Events.{Event, Unreadable, Capabilities, Of, eventOf, isOf}
 use Rattle.client.specs.Client.{Whole, received, locallyClosed, started, storeStarted}
-use Rattle.steps.specs.States.{Calm, isOf}
+use Rattle.steps.specs.States.{Calm}
 use Rattle.demands.specs.Trace.{keep, final, seen}
 
 -- what a call is asked: a PDU with the list that is lent, or a close by the host

@@ -1,5 +1,6 @@
--- The thirteen starred numbers of the paper, as one statement over a single list. The numbers stand bare: the list
--- is the paper's own text, and it pins the sizes and the refusals' numbers to what the paper says.
+-- The thirteen starred numbers of the paper, as one statement over a single list. The paper's numbers stand bare here,
+-- since the list is the paper's own text: it pins the names of the sizes and the refusals, which other pages use, to what
+-- the paper says.
 use Prim.Native.Nat.{ℕ, _-_, _/_}
 use mathlib.Core.Path.{_≡_}
 use mathlib.Core.Bool.{true}
@@ -11,16 +12,14 @@ use Rattle.paper.specs.Refusals.{refusalNumber}
 use Rattle.lists.specs.Bytes.{zeros}
 use Rattle.reading.specs.Reading.{readPdu}
 use Rattle.reading.specs.declared.Pdu.{Pdu}
-use Rattle.reading.specs.declared.Pdu.the-variants.{CreateRequest, CreateResponse, DataFirst, Data, Close,
-    CapsRequest, CapsResponse, Refused}
+use Rattle.reading.specs.declared.Pdu.the-variants.{CreateRequest, CreateResponse, DataFirst, Data, Close, CapsRequest, CapsResponse, Refused}
 use Rattle.channel.specs.Stages.{took}
 use Rattle.channel.specs.declared.Stage.the-variants.{Idle}
 use Rattle.channel.specs.declared.Offer.the-variants.{First}
 use Rattle.channel.specs.declared.Took.{Took}
 use Rattle.channel.specs.declared.Took.the-variants.{Bars, Spoils, Holds, Finishes}
 use Rattle.channel.specs.declared.Answer.{Answer}
-use Rattle.channel.specs.declared.Answer.the-variants.{Ready, Opened, Declined, Held, Message, Closed, Ignored,
-    Refused as NotDone}
+use Rattle.channel.specs.declared.Answer.the-variants.{Ready, Opened, Declined, Held, Message, Closed, Ignored, Refused as NotDone}
 use Rattle.channel.specs.Channel.{NoRoom, Shut, act}
 use Rattle.client.specs.Events.{createAct}
 use Rattle.demands.specs.Cut.{Cut, CutByUs}

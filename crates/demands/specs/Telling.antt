@@ -8,8 +8,7 @@ use lib.ListN.{length}
 use Rattle.paper.specs.Sizes.{MESSAGE-MAX}
 use Rattle.paper.specs.Statuses.{OPENED, UNLISTED, FULL}
 use Rattle.paper.specs.declared.Refusal.{Refusal}
-use Rattle.paper.specs.declared.Refusal.the-variants.{BadList, WrongTime, NotOpen, AlreadyOpen, StillJoining,
-    OverLimit, PastLength, IsSpoiled}
+use Rattle.paper.specs.declared.Refusal.the-variants.{BadList, WrongTime, NotOpen, AlreadyOpen, StillJoining, OverLimit, PastLength, IsSpoiled}
 use Rattle.laying.specs.Laying.{createResponseBytes, closeBytes}
 use Rattle.channel.specs.declared.Offer.{Offer}
 use Rattle.channel.specs.declared.Offer.the-variants.{First, More}
@@ -20,8 +19,7 @@ use Rattle.channel.specs.declared.Answer.the-variants.{Opened, Declined, Held, 
 use Rattle.channel.specs.Channel.{Act, BadCreate, Create, Bring, Closing, LocalClose}
 use Rattle.client.specs.Events.{Event, Unreadable, Capabilities, Of}
 use Rattle.demands.specs.Runs.{Told}
-use Rattle.demands.specs.Joining.{Join, Off, Waiting, Gathering, Dead, Brings, NoMessage, StillToCome, Complete,
-    joins, wantsRoom, joinsIf, flag, flags}
+use Rattle.demands.specs.Joining.{Join, Off, Waiting, Gathering, Dead, Brings, NoMessage, StillToCome, Complete, joins, wantsRoom, joinsIf, flag, flags}
 
 -- ---- the steps, by where a channel's joining stands: the answer and the bytes of the reply
 

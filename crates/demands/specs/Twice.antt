@@ -5,7 +5,7 @@ use Prim.Native.Nat.{ℕ}
 use mathlib.Core.Path.{_≡_}
 use mathlib.Core.Bool.{Bool}
 use mathlib.Core.List.{List, map}
-use Rattle.client.specs.State.{State}
+use Rattle.connection.specs.States.{State}
 use Rattle.client.specs.Events.{Of, closeAct}
 use Rattle.demands.specs.Runs.{Call, after, toldTo, ends, eventIn, ownEvents, fullFlags, JustReady}
 use Rattle.demands.specs.Joining.{Off, brought, joinWith}

@@ -12,17 +12,15 @@ use Rattle.lists.specs.Bytes.{zeros}
 use Rattle.channel.specs.declared.Decline.the-variants.{Unlisted, Full}
 use Rattle.channel.specs.declared.Concern.the-variants.{NoChannel}
 use Rattle.channel.specs.declared.Answer.{Answer}
-use Rattle.channel.specs.declared.Answer.the-variants.{Ready, Opened, Declined, Held, Message, Closed, Ignored,
-    Refused}
+use Rattle.channel.specs.declared.Answer.the-variants.{Ready, Opened, Declined, Held, Message, Closed, Ignored, Refused}
 use Rattle.channel.specs.Channel.{BadCreate, Create, Bring, Closing, LocalClose}
-use Rattle.client.specs.State.{State}
+use Rattle.connection.specs.States.{State}
 use Rattle.client.specs.Events.{Event, Unreadable, Capabilities, Of}
 use Rattle.client.specs.Client.{stepped}
 use Rattle.demands.specs.Runs.{Call, Told, eventIn, eventMeetsFull}
 use Rattle.demands.specs.Joining.{Join, Off, Waiting, Gathering, Dead}
 use Rattle.demands.specs.Telling.{tellsNone}
-use Rattle.demands.specs.Managers.{Manager, Stand, put, allOff, Sight, atStart, sightNext, sightTold,
-    paperStart, Demand2Of, Demand3Of}
+use Rattle.demands.specs.Managers.{Manager, Stand, put, allOff, Sight, atStart, sightNext, sightTold, paperStart, Demand2Of, Demand3Of}
 
 -- ---- answers by their kind
 

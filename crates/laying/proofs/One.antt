@@ -12,11 +12,13 @@ use Rattle.laying.proofs.close.Reads as close
 use Rattle.laying.proofs.capabilities_request.Reads as capabilities-request
 use Rattle.laying.proofs.capabilities_response.Reads as capabilities-response
 
-pub create-request-one : (κs : _) (a : _) (r r′ : _) (s s′ : _) → create-request.Post κs a r s → create-request.Post κs a r′ s′
+pub create-request-one : (κs : _) (a : _) (r r′ : _) (s s′ : _) → create-request.Post κs a r s
+    → create-request.Post κs a r′ s′
     → (r ≡ r′) × (now (s .0) ≡ now (s′ .0))
 create-request-one κs a r r′ s s′ p q = (same (p .0) (q .0), same (p .1) (q .1))
 
-pub create-response-one : (κs : _) (a : _) (r r′ : _) (s s′ : _) → create-response.Post κs a r s → create-response.Post κs a r′ s′
+pub create-response-one : (κs : _) (a : _) (r r′ : _) (s s′ : _) → create-response.Post κs a r s
+    → create-response.Post κs a r′ s′
     → (r ≡ r′) × (now (s .0) ≡ now (s′ .0))
 create-response-one κs a r r′ s s′ p q = (same (p .0) (q .0), same (p .1) (q .1))
 
@@ -32,10 +34,12 @@ pub close-one : (κs : _) (a : _) (r r′ : _) (s s′ : _) → close.Post κs a
     → (r ≡ r′) × (now (s .0) ≡ now (s′ .0))
 close-one κs a r r′ s s′ p q = (same (p .0) (q .0), same (p .1) (q .1))
 
-pub capabilities-request-one : (κs : _) (a : _) (r r′ : _) (s s′ : _) → capabilities-request.Post κs a r s → capabilities-request.Post κs a r′ s′
+pub capabilities-request-one : (κs : _) (a : _) (r r′ : _) (s s′ : _) → capabilities-request.Post κs a r s
+    → capabilities-request.Post κs a r′ s′
     → (r ≡ r′) × (now (s .0) ≡ now (s′ .0))
 capabilities-request-one κs a r r′ s s′ p q = (same (p .0) (q .0), same (p .1) (q .1))
 
-pub capabilities-response-one : (κs : _) (a : _) (r r′ : _) (s s′ : _) → capabilities-response.Post κs a r s → capabilities-response.Post κs a r′ s′
+pub capabilities-response-one : (κs : _) (a : _) (r r′ : _) (s s′ : _) → capabilities-response.Post κs a r s
+    → capabilities-response.Post κs a r′ s′
     → (r ≡ r′) × (now (s .0) ≡ now (s′ .0))
 capabilities-response-one κs a r r′ s s′ p q = (same (p .0) (q .0), same (p .1) (q .1))

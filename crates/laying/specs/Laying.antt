@@ -10,7 +10,8 @@ use Rattle.numbers.specs.Numbers.{bytesOf, codeFor, narrowBytes}
 use Rattle.numbers.specs.Status.{statusBytes}
 use Rattle.reading.specs.declared.Charges.{Charges}
 
--- "The first byte holds Cmd in its high four bits, then two bits (Sp, Pri or Len), then cbId in the low two": then the number
+-- "The first byte holds Cmd in its high four bits, then two bits (Sp, Pri or
+-- Len), then cbId in the low two": then the number
 unfoldable pub headOf : ℕ → ℕ → ℕ → List ℕ
 headOf cmd middle number = (16 * (cmd % 16) + 4 * (middle % 4) + codeFor number) ∷ narrowBytes number
 
@@ -45,7 +46,8 @@ capsHead version = (16 * CAPABILITIES ∷ 0 ∷ []) ++ bytesOf 2 version
 unfoldable pub capsRequestBytes : ℕ → Charges → List ℕ
 capsRequestBytes version charges =
     cond (eqb version 1) (capsHead version)
-    ((((capsHead version ++ bytesOf 2 (charges .class0)) ++ bytesOf 2 (charges .class1)) ++ bytesOf 2 (charges .class2)) ++ bytesOf 2 (charges .class3))
+    ((((capsHead version ++ bytesOf 2 (charges .class0)) ++ bytesOf 2 (charges .class1))
+    ++ bytesOf 2 (charges .class2)) ++ bytesOf 2 (charges .class3))
 
 unfoldable pub capsResponseBytes : ℕ → List ℕ
 capsResponseBytes version = capsHead version

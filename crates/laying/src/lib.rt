@@ -13,10 +13,11 @@ ghost use mathlib.Core.Path.{_≡_};
 ghost use lib.ListN;
 ghost use Rattle.lists.specs.Bytes.{laid};
 ghost use Rattle.numbers.specs.Numbers.{bytesOf, narrowBytes};
-ghost use Rattle.laying.specs.Laying.{headOf, createRequestBytes, createResponseBytes, dataFirstHead, dataFirstBytes, dataBytes, closeBytes, capsHead, capsRequestBytes, capsResponseBytes};
+ghost use Rattle.laying.specs.Laying.{headOf, createRequestBytes, createResponseBytes, dataBytes, closeBytes};
+ghost use Rattle.laying.specs.Laying.{dataFirstHead, dataFirstBytes, capsHead, capsRequestBytes, capsResponseBytes};
 
 // A number in its narrowest width, from a place on. Answers the width.
-fn number(out: &mut [u8], at: usize, value: u32) -> usize
+fn narrowed(out: &mut [u8], at: usize, value: u32) -> usize
     ensures { λ r. ⌜ r ≡ ListN.length (narrowBytes value) ⌝ }
     ensures { λ _. ⌜ now (out .exit) ≡ laid (now (out .entry)) at (narrowBytes value) ⌝ }
 {
@@ -39,7 +40,7 @@ fn head(out: &mut [u8], cmd: u8, middle: u8, number: u32) -> usize
 {
     let first = [16 * (cmd % 16) + 4 * (middle % 4) + numbers::code(number)];
     lists::copy(out, &first);
-    1 + self::number(out, 1, number)
+    1 + narrowed(out, 1, number)
 }
 
 // A Create request: the name and one zero byte.
@@ -71,7 +72,7 @@ fn first_head(out: &mut [u8], number: u32, length: u32) -> usize
     ensures { λ _. ⌜ now (out .exit) ≡ laid (now (out .entry)) 0 (dataFirstHead number length) ⌝ }
 {
     let at = head(out, DATA_FIRST, numbers::code(length), number);
-    at + self::number(out, at, length)
+    at + narrowed(out, at, length)
 }
 
 // A Data First with any Length.

@@ -46,7 +46,8 @@ tenth n (suc (suc i)) h g =
 -- a byte put in front of what stands from a place on
 pub drop-set : (l : List ℕ) (i a : ℕ) → i < length l → drop i (set l i a) ≡ a ∷ drop (i + 1) l
 drop-set l i a h =
-    drop-cons (set l i a) i 0 (lt-length-set l i a h) ∙ rw (getD-set-same l i a 0 h, drop-set-lt (suc i) l i a (omega arith), add-one i)
+    drop-cons (set l i a) i 0 (lt-length-set l i a h)
+    ∙ rw (getD-set-same l i a 0 h, drop-set-lt (suc i) l i a (omega arith), add-one i)
 
 -- ---- the digits are the number's
 
@@ -61,7 +62,11 @@ spelt-in zero n h = absurd (omega arith)
 spelt-in (suc k) n h =
     ⊎-elim
     (λ (few : n < 10). rw (lt-ltb n 10 few) (omega arith))
-    (λ (more : 10 ≤ n). rw (le-ltb n 10 more, spelt-append 0 (digitsIn k (n / 10)) (digit (n % 10) ∷ []), spelt-in k (n / 10) (omega arith)) (omega arith))
+    (λ (more : 10 ≤ n). rw (
+      le-ltb n 10 more,
+      spelt-append 0 (digitsIn k (n / 10)) (digit (n % 10) ∷ []),
+      spelt-in k (n / 10) (omega arith),
+    ) (omega arith))
     (lt-or-le n 10)
 
 -- a number's digits spell it

@@ -1,3 +1,4 @@
 pub mod Decimal
 pub mod Ends
+pub mod Spelling
 pub mod One

@@ -4,19 +4,20 @@
 use mathlib.Core.Path.{_≡_}
 use denote.Ref.{now}
 use Rattle.lists.proofs.Cases.{same}
-use Rattle.lines.proofs.concern.Reads as concern
-use Rattle.lines.proofs.value.Reads as value
+use Rattle.lines.proofs.number.Reads as number
+use Rattle.lines.proofs.text.Reads as text
 use Rattle.lines.proofs.header.Reads as header
 use Rattle.lines.proofs.line.Reads as line
 use Rattle.lines.proofs.cut_line.Reads as cut-line
+use Rattle.lines.proofs.message_line.Reads as message-line
 
-pub concern-one : (κs : _) (a : _) (r r′ : _) (s s′ : _) → concern.Post κs a r s → concern.Post κs a r′ s′
-    → r ≡ r′
-concern-one κs a r r′ s s′ p q = same p q
+pub number-one : (κs : _) (a : _) (r r′ : _) (s s′ : _) → number.Post κs a r s → number.Post κs a r′ s′
+    → (r ≡ r′) × (now (s .0) ≡ now (s′ .0))
+number-one κs a r r′ s s′ p q = (same (p .0 .0) (q .0 .0), same (p .1) (q .1))
 
-pub value-one : (κs : _) (a : _) (r r′ : _) (s s′ : _) → value.Post κs a r s → value.Post κs a r′ s′
-    → r ≡ r′
-value-one κs a r r′ s s′ p q = same p q
+pub text-one : (κs : _) (a : _) (r r′ : _) (s s′ : _) → text.Post κs a r s → text.Post κs a r′ s′
+    → (r ≡ r′) × (now (s .0) ≡ now (s′ .0))
+text-one κs a r r′ s s′ p q = (same (p .0) (q .0), same (p .1) (q .1))
 
 pub header-one : (κs : _) (a : _) (r r′ : _) (s s′ : _) → header.Post κs a r s → header.Post κs a r′ s′
     → (r ≡ r′) × (now (s .0) ≡ now (s′ .0))
@@ -29,3 +30,7 @@ line-one κs a r r′ s s′ p q = (same (p .0 .0) (q .0 .0), same (p .1) (q .1)
 pub cut-line-one : (κs : _) (a : _) (r r′ : _) (s s′ : _) → cut-line.Post κs a r s → cut-line.Post κs a r′ s′
     → (r ≡ r′) × (now (s .0) ≡ now (s′ .0))
 cut-line-one κs a r r′ s s′ p q = (same (p .0 .0) (q .0 .0), same (p .1) (q .1))
+
+pub message-line-one : (κs : _) (a : _) (r r′ : _) (s s′ : _) → message-line.Post κs a r s → message-line.Post κs a r′ s′
+    → (r ≡ r′) × (now (s .0) ≡ now (s′ .0))
+message-line-one κs a r r′ s s′ p q = (same (p .0 .0) (q .0 .0), same (p .1) (q .1))

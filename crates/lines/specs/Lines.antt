@@ -1,12 +1,16 @@
--- The lines that the walker prints. "Fields: place from 0; answer [..]; channel, `-` for ready and refusals 1 to 7; number [..];
--- reply length." The text is ASCII: single spaces, decimal numbers, one LF (10) at the end.
+-- The lines that the walker prints. "Fields: place from 0; answer [..]; channel, `-` for ready and refusals 1 to 7;
+-- number [..]; reply length." The text is ASCII: single spaces, decimal numbers, one LF (10) at the end.
 use Prim.Native.Nat.{ℕ, _+_, _*_}
 use mathlib.Core.List.{List, [], _∷_, _++_}
+use lib.ListN.{take}
+use Rattle.paper.specs.Sizes.{MESSAGE-MAX}
 use Rattle.channel.specs.declared.Concern.{Concern}
 use Rattle.channel.specs.declared.Concern.the-variants.{NoChannel, Channel}
 use Rattle.channel.specs.declared.Answer.{Answer}
-use Rattle.channel.specs.Answers.{Word, ready, opened, declined, held, message, closed, ignored, refused, wordOf, concernOf, numberOf}
+use Rattle.channel.specs.Answers.{Word, ready, opened, declined, held, message, closed, ignored, refused, wordOf}
+use Rattle.channel.specs.Answers.{concernOf, numberOf}
 use Rattle.lines.specs.Decimal.{FIELD-MAX, field}
+use Rattle.lines.specs.Hex.{bytesField}
 
 abbrev pub SPACE : ℕ
 SPACE = 32
@@ -24,7 +28,9 @@ LINE-MAX = 4 * FIELD-MAX + WORD-MAX
 
 -- "pdu answer channel number reply"
 unfoldable pub headerLine : List ℕ
-headerLine = 112 ∷ 100 ∷ 117 ∷ 32 ∷ 97 ∷ 110 ∷ 115 ∷ 119 ∷ 101 ∷ 114 ∷ 32 ∷ 99 ∷ 104 ∷ 97 ∷ 110 ∷ 110 ∷ 101 ∷ 108 ∷ 32 ∷ 110 ∷ 117 ∷ 109 ∷ 98 ∷ 101 ∷ 114 ∷ 32 ∷ 114 ∷ 101 ∷ 112 ∷ 108 ∷ 121 ∷ 10 ∷ []
+headerLine =
+    112 ∷ 100 ∷ 117 ∷ 32 ∷ 97 ∷ 110 ∷ 115 ∷ 119 ∷ 101 ∷ 114 ∷ 32 ∷ 99 ∷ 104 ∷ 97 ∷ 110 ∷ 110 ∷ 101 ∷ 108 ∷ 32
+    ∷ 110 ∷ 117 ∷ 109 ∷ 98 ∷ 101 ∷ 114 ∷ 32 ∷ 114 ∷ 101 ∷ 112 ∷ 108 ∷ 121 ∷ 10 ∷ []
 
 -- the answer's word and a space
 unfoldable pub wordField : Word → List ℕ
@@ -44,8 +50,18 @@ channelField (Channel n) = field n SPACE
 
 unfoldable pub lineOf : ℕ → Answer → ℕ → List ℕ
 lineOf place answer sent =
-    (((field place SPACE ++ wordField (wordOf answer)) ++ channelField (concernOf answer)) ++ field (numberOf answer) SPACE) ++ field sent LF
+    (((field place SPACE ++ wordField (wordOf answer)) ++ channelField (concernOf answer))
+    ++ field (numberOf answer) SPACE) ++ field sent LF
 
 -- "A last record cut short prints its place and `cut`, and ends the run."
 unfoldable pub cutLineOf : ℕ → List ℕ
 cutLineOf place = field place SPACE ++ (99 ∷ 117 ∷ 116 ∷ 10 ∷ [])
+
+-- the line of a message handed up: the place of the record that brought it, its channel, and its bytes, of which a
+-- message has at most 4,096
+unfoldable pub messageLineOf : ℕ → ℕ → List ℕ → List ℕ
+messageLineOf place number bytes = ((field place SPACE ++ field number SPACE) ++ bytesField (take MESSAGE-MAX bytes)) ++ (LF ∷ [])
+
+-- the most bytes that such a line has: two numbers, two digits a byte, and its end
+unfoldable pub MESSAGE-LINE-MAX : ℕ
+MESSAGE-LINE-MAX = 2 * FIELD-MAX + 2 * MESSAGE-MAX + 1

@@ -1,18 +1,22 @@
-// The text of the walker's lines.
+// The text of the programs' lines.
 //
-// `header` lays the first line, `line` the line of one PDU from its place, its answer and its reply's length, `cut_line` the
-// line of a last record that is cut short. Each lays its bytes at the front of a buffer and answers how many there are.
-// Bytes of the buffer behind them stay. A buffer that is too short gets as much as it has room for.
+// `header` lays the walker's first line, `line` the line of one PDU from its place, its answer and its reply's length,
+// `cut_line` the line of a last record that is cut short; `message_line` lays the line of a message handed up. Each lays its
+// bytes at the front of a buffer and answers how many there are; `number` and `text`, of which lines are made, lay theirs
+// from a place on. Bytes of the buffer behind them stay. A buffer that is too short gets as much as it has room for.
 use channel::Answer;
 use channel::Concern;
-use channel::Decline;
+use paper::MESSAGE_MAX;
 ghost use mathlib.Core.Path.{_≡_};
-ghost use Prim.Native.Nat.{_≤_, _<_};
+ghost use Prim.Native.Nat.{_*_, _≤_, _<_};
 ghost use lib.ListN.{length, drop};
+ghost use Rattle.paper.specs.Sizes.{MESSAGE-MAX};
 ghost use Rattle.lists.specs.Bytes.{laid};
 ghost use Rattle.channel.specs.Answers.{concernOf, numberOf, wordOf};
 ghost use Rattle.lines.specs.Decimal.{FIELD-MAX, field};
+ghost use Rattle.lines.specs.Hex.{hexDigit, hexByte, hexOf, bytesField};
 ghost use Rattle.lines.specs.Lines.{WORD-MAX, LINE-MAX, headerLine, wordField, channelField, lineOf, cutLineOf};
+ghost use Rattle.lines.specs.Lines.{messageLineOf, MESSAGE-LINE-MAX};
 
 // A number's field has at most twenty digits and the byte that ends it.
 const FIELD_MAX: usize = 21;
@@ -22,6 +26,9 @@ const WORD_MAX: usize = 9;
 
 // The most bytes that a line has: four numbers and a word.
 pub const LINE_MAX: usize = 4 * FIELD_MAX + WORD_MAX;
+
+// The most bytes that a message's line has: two numbers, two digits a byte, and its end.
+pub const MESSAGE_LINE_MAX: usize = 2 * FIELD_MAX + 2 * MESSAGE_MAX + 1;
 
 // A field, at the end of its scratch.
 struct Field {
@@ -48,7 +55,7 @@ fn spelled(n: u64, end: u8) -> Field
 }
 
 // A number's field, from a place on. Answers its length.
-fn number(out: &mut [u8], at: usize, n: u64, end: u8) -> usize
+pub fn number(out: &mut [u8], at: usize, n: u64, end: u8) -> usize
     ensures { λ r. ⌜ (r ≡ length (field n end)) × (r ≤ FIELD-MAX) ⌝ }
     ensures { λ _. ⌜ now (out .exit) ≡ laid (now (out .entry)) at (field n end) ⌝ }
 {
@@ -60,7 +67,7 @@ fn number(out: &mut [u8], at: usize, n: u64, end: u8) -> usize
 }
 
 // Text, from a place on. Answers its length.
-fn text(out: &mut [u8], at: usize, bytes: &[u8]) -> usize
+pub fn text(out: &mut [u8], at: usize, bytes: &[u8]) -> usize
     ensures { λ r. ⌜ r ≡ length (now (bytes .entry)) ⌝ }
     ensures { λ _. ⌜ now (out .exit) ≡ laid (now (out .entry)) at (now (bytes .entry)) ⌝ }
 {
@@ -82,41 +89,6 @@ fn word(out: &mut [u8], at: usize, answer: Answer) -> usize
         Answer::Closed { number: _ } => text(out, at, b"closed "),
         Answer::Ignored { number: _ } => text(out, at, b"ignored "),
         Answer::Refused { why: _, concern: _ } => text(out, at, b"refused "),
-    }
-}
-
-// The channel that the answer concerns.
-pub fn concern(answer: Answer) -> Concern
-    ensures { λ r. ⌜ r ≡ concernOf answer ⌝ }
-{
-    match answer {
-        Answer::Ready { level: _ } => Concern::NoChannel,
-        Answer::Opened { number } => Concern::Channel(number),
-        Answer::Declined { number, why: _ } => Concern::Channel(number),
-        Answer::Held { number, left: _ } => Concern::Channel(number),
-        Answer::Message { number, len: _ } => Concern::Channel(number),
-        Answer::Closed { number } => Concern::Channel(number),
-        Answer::Ignored { number } => Concern::Channel(number),
-        Answer::Refused { why: _, concern } => concern,
-    }
-}
-
-// The answer's number: level, bytes still to come, message length, refusal number, 1 unlisted or 2 full, else 0.
-pub fn value(answer: Answer) -> u64
-    ensures { λ r. ⌜ r ≡ numberOf answer ⌝ }
-{
-    match answer {
-        Answer::Ready { level } => level as u64,
-        Answer::Opened { number: _ } => 0,
-        Answer::Declined { number: _, why } => match why {
-            Decline::Unlisted => 1,
-            Decline::Full => 2,
-        },
-        Answer::Held { number: _, left } => left as u64,
-        Answer::Message { number: _, len } => len as u64,
-        Answer::Closed { number: _ } => 0,
-        Answer::Ignored { number: _ } => 0,
-        Answer::Refused { why, concern: _ } => paper::number(why) as u64,
     }
 }
 
@@ -146,8 +118,8 @@ pub fn line(out: &mut [u8], place: u64, answer: Answer, sent: usize) -> usize
 {
     let placed = number(out, 0, place, b' ');
     let worded = placed + word(out, placed, answer);
-    let concerned = worded + channel(out, worded, concern(answer));
-    let valued = concerned + number(out, concerned, value(answer), b' ');
+    let concerned = worded + channel(out, worded, channel::concerns(answer));
+    let valued = concerned + number(out, concerned, channel::value(answer), b' ');
     valued + number(out, valued, sent as u64, b'\n')
 }
 
@@ -158,4 +130,60 @@ pub fn cut_line(out: &mut [u8], place: u64) -> usize
 {
     let placed = number(out, 0, place, b' ');
     placed + text(out, placed, b"cut\n")
+}
+
+// A hexadecimal digit's code, lower case.
+fn hex_digit(d: u8) -> u8
+    requires { ⌜ d < 16 ⌝ }
+    ensures { λ r. ⌜ r ≡ hexDigit d ⌝ }
+{
+    if d < 10 { 48 + d } else { 87 + d }
+}
+
+// A byte's two digits.
+fn hex_byte(byte: u8) -> [u8; 2]
+    ensures { λ r. ⌜ r ≡ hexByte byte ⌝ }
+{
+    [hex_digit(byte / 16), hex_digit(byte % 16)]
+}
+
+// The digits of bytes, from a place on. Answers how many there are.
+fn hex(out: &mut [u8], at: usize, bytes: &[u8]) -> usize
+    requires { ⌜ (at ≤ 2 * FIELD-MAX) × (length (now bytes) ≤ MESSAGE-MAX) ⌝ }
+    ensures { λ r. ⌜ (r ≡ length (hexOf (now (bytes .entry)))) × (r ≤ 2 * MESSAGE-MAX) ⌝ }
+    ensures { λ _. ⌜ now (out .exit) ≡ laid (now (out .entry)) at (hexOf (now (bytes .entry))) ⌝ }
+{
+    let mut i = 0;
+    let mut end = at;
+    while i < bytes.len() {
+        let digits = hex_byte(bytes[i]);
+        lists::copy_at(out, end, &digits);
+        end += 2;
+        i += 1;
+    }
+    end - at
+}
+
+// The bytes of a message, from a place on: `-` for none.
+fn message_bytes(out: &mut [u8], at: usize, bytes: &[u8]) -> usize
+    requires { ⌜ (at ≤ 2 * FIELD-MAX) × (length (now bytes) ≤ MESSAGE-MAX) ⌝ }
+    ensures { λ r. ⌜ (r ≡ length (bytesField (now (bytes .entry)))) × (r ≤ 2 * MESSAGE-MAX) ⌝ }
+    ensures { λ _. ⌜ now (out .exit) ≡ laid (now (out .entry)) at (bytesField (now (bytes .entry))) ⌝ }
+{
+    if bytes.len() == 0 {
+        return text(out, at, b"-");
+    }
+    hex(out, at, bytes)
+}
+
+// The line of a message handed up: the place of the record that brought it, its channel, and its bytes, at most 4,096.
+pub fn message_line(out: &mut [u8], place: u64, number: u32, bytes: &[u8]) -> usize
+    ensures { λ r. ⌜ (r ≡ length (messageLineOf place number (now (bytes .entry)))) × (r ≤ MESSAGE-LINE-MAX) ⌝ }
+    ensures { λ _. ⌜ now (out .exit) ≡ laid (now (out .entry)) 0 (messageLineOf place number (now (bytes .entry))) ⌝ }
+{
+    let n = lists::lesser(MESSAGE_MAX, bytes.len());
+    let placed = self::number(out, 0, place, b' ');
+    let numbered = placed + self::number(out, placed, number as u64, b' ');
+    let told = numbered + message_bytes(out, numbered, &bytes[..n]);
+    told + text(out, told, b"\n")
 }

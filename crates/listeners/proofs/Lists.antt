@@ -8,7 +8,8 @@ use native.Mathlib.Omega.{arith}
 use borrow.Author.Tests.{le-leb, lt-leb}
 use lib.ListN.{length, replicate}
 use Rattle.paper.specs.Sizes.{LIST-MAX}
-use Rattle.listeners.specs.Listeners.{names, ended, isEmpty, noneEmpty, sameBytes, isOneOf, allNames, goodList, isListed}
+use Rattle.listeners.specs.Listeners.{names, ended, isEmpty, noneEmpty, sameBytes, isOneOf, allNames, goodList}
+use Rattle.listeners.specs.Listeners.{isListed}
 use Rattle.listeners.proofs.Matches.{same-self, same-behind}
 use Rattle.listeners.proofs.Names.{Clean, names-none, names-front}
 
@@ -59,7 +60,11 @@ all-unended (x ∷ l) h k = rw (names-none (x ∷ l) k)
 -- a name in front of a list
 pub all-front : (name rest : List ℕ) → 0 < length name → Clean name → allNames (name ++ (0 ∷ rest)) ≡ allNames rest
 unfolding allNames noneEmpty ended sameBytes
-all-front name rest h k = rw (names-front name rest k, filled name h, same-behind name (0 ∷ ended (names rest)) (0 ∷ rest))
+all-front name rest h k = rw (
+  names-front name rest k,
+  filled name h,
+  same-behind name (0 ∷ ended (names rest)) (0 ∷ rest),
+)
 
 -- up to 512 bytes the names decide
 pub good-all : (l : List ℕ) → length l ≤ LIST-MAX → goodList l ≡ allNames l
@@ -93,10 +98,7 @@ pub one-none : (name : List ℕ) → isOneOf [] name ≡ false
 unfolding isOneOf
 one-none name = refl
 
-pub one-front : (name rest x : List ℕ) → Clean name → isOneOf (names (name ++ (0 ∷ rest))) x ≡ (sameBytes name x || isOneOf (names rest) x)
+pub one-front : (name rest x : List ℕ) → Clean name
+    → isOneOf (names (name ++ (0 ∷ rest))) x ≡ (sameBytes name x || isOneOf (names rest) x)
 unfolding isOneOf
 one-front name rest x k = rw (names-front name rest k)
-
--- a name put in front of a list is in it
-pub front-listed : (name rest : List ℕ) → 0 < length name → Clean name → isListed (name ++ (0 ∷ rest)) name ≡ true
-front-listed name rest h k = rw (listed-names (name ++ (0 ∷ rest)) name h, one-front name rest name k, same-self name)

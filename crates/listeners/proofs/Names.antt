@@ -21,7 +21,8 @@ unfolding names place
 names-none [] h = refl
 names-none (b ∷ l) h = go (isZero b) h (names-none l)
   where
-    go : (t : Bool) → hereOr t (place isZero l) ≡ suc (length l) → (Clean l → names l ≡ []) → cond t ([] ∷ names l) (withFirst b (names l)) ≡ []
+    go : (t : Bool) → hereOr t (place isZero l) ≡ suc (length l) → (Clean l → names l ≡ [])
+        → cond t ([] ∷ names l) (withFirst b (names l)) ≡ []
     go true k ih = absurd (omega arith)
     go false k ih = rw (ih (omega arith))
 
@@ -31,7 +32,10 @@ unfolding names place
 names-front [] rest h = refl
 names-front (b ∷ name) rest h = go (isZero b) h (names-front name rest)
   where
-    go : (t : Bool) → hereOr t (place isZero name) ≡ suc (length name) → (Clean name → names (name ++ (0 ∷ rest)) ≡ name ∷ names rest) → cond t ([] ∷ names (name ++ (0 ∷ rest))) (withFirst b (names (name ++ (0 ∷ rest)))) ≡ (b ∷ name) ∷ names rest
+    go : (t : Bool) → hereOr t (place isZero name) ≡ suc (length name)
+        → (Clean name → names (name ++ (0 ∷ rest)) ≡ name ∷ names rest)
+        → cond t ([] ∷ names (name ++ (0 ∷ rest))) (withFirst b (names (name ++ (0 ∷ rest)))) ≡ (b ∷ name) ∷ names
+        rest
     go true k ih = absurd (omega arith)
     go false k ih = rw (ih (omega arith))
 
@@ -46,11 +50,14 @@ clean-before (b ∷ l) = go (isZero b) refl (clean-before l)
     go false e ih = rw e (ap suc ih)
 
 -- a list is the bytes before its first zero byte, the zero byte, and the rest
-pub list-cut : (l : List ℕ) → place isZero l < length l → l ≡ take (place isZero l) l ++ (0 ∷ drop (suc (place isZero l)) l)
+pub list-cut : (l : List ℕ) → place isZero l < length l
+    → l ≡ take (place isZero l) l ++ (0 ∷ drop (suc (place isZero l)) l)
 unfolding place
 list-cut [] h = absurd (omega arith)
 list-cut (b ∷ l) h = go (isZero b) refl h (list-cut l)
   where
-    go : (t : Bool) → isZero b ≡ t → hereOr t (place isZero l) < suc (length l) → (place isZero l < length l → l ≡ take (place isZero l) l ++ (0 ∷ drop (suc (place isZero l)) l)) → b ∷ l ≡ take (hereOr t (place isZero l)) (b ∷ l) ++ (0 ∷ drop (suc (hereOr t (place isZero l))) (b ∷ l))
+    go : (t : Bool) → isZero b ≡ t → hereOr t (place isZero l) < suc (length l)
+        → (place isZero l < length l → l ≡ take (place isZero l) l ++ (0 ∷ drop (suc (place isZero l)) l))
+        → b ∷ l ≡ take (hereOr t (place isZero l)) (b ∷ l) ++ (0 ∷ drop (suc (hereOr t (place isZero l))) (b ∷ l))
     go true e k ih = ap (λ (x : ℕ). x ∷ l) (eqb-true b 0 e)
     go false e k ih = ap (λ (r : List ℕ). b ∷ r) (ih (omega arith))

@@ -7,5 +7,6 @@ use Rattle.listeners.proofs.listed.Reads as listed-reads
 pub good-one : (κs : _) (a : _) (r r′ : _) (s s′ : _) → good-reads.Post κs a r s → good-reads.Post κs a r′ s′ → r ≡ r′
 good-one κs a r r′ s s′ p q = p ∙ sym q
 
-pub listed-one : (κs : _) (a : _) (r r′ : _) (s s′ : _) → listed-reads.Post κs a r s → listed-reads.Post κs a r′ s′ → r ≡ r′
+pub listed-one : (κs : _) (a : _) (r r′ : _) (s s′ : _) → listed-reads.Post κs a r s → listed-reads.Post κs a r′ s′
+    → r ≡ r′
 listed-one κs a r r′ s s′ p q = p ∙ sym q

@@ -22,7 +22,8 @@ module _ (list : List ℕ) (at n : ℕ) (first : n ≡ place isZero (take (lengt
 
   -- with the zero byte they are a name in front of what is left
   cut-on : n < length list - at → drop at list ≡ take n (drop at list) ++ (0 ∷ drop (at + (n + 1)) list)
-  cut-on h = rw (add-one, ← (drop-drop (suc n) at list)) (rw place-on at (list-cut (drop at list) (rw (place-on, length-drop) h)))
+  cut-on h = rw (add-one, ← (drop-drop (suc n) at list))
+      (rw place-on at (list-cut (drop at list) (rw (place-on, length-drop) h)))
 
   clean-on : Clean (take n (drop at list))
   clean-on = rw place-on at (clean-before (drop at list))
@@ -32,7 +33,8 @@ module _ (list : List ℕ) (at n : ℕ) (first : n ≡ place isZero (take (lengt
 
   -- without it they are all that is left
   clean-last : length list - at ≤ n → Clean (drop at list)
-  clean-last h = let k = rw length-drop at (place-le isZero (drop at list)) in rw (place-on, length-drop) (omega (arith, place-on))
+  clean-last h = let k = rw length-drop at (place-le isZero (drop at list)) in rw (place-on, length-drop)
+      (omega (arith, place-on))
 
   -- ---- the list is good, or not
 
@@ -47,17 +49,22 @@ module _ (list : List ℕ) (at n : ℕ) (first : n ≡ place isZero (take (lengt
 
   -- ---- the name is one of the list's, or not
 
-  one-on : (name : List ℕ) → n < length list - at → isOneOf (names (drop at list)) name ≡ (sameBytes (take (at + n - at) (drop at list)) name || isOneOf (names (drop (at + (n + 1)) list)) name)
-  one-on name h = rw (from-to list at n) (ap (λ (l : List ℕ). isOneOf (names l) name) (cut-on h) ∙ one-front _ _ name clean-on)
+  one-on : (name : List ℕ) → n < length list - at → isOneOf (names (drop at list)) name
+      ≡ (sameBytes (take (at + n - at) (drop at list)) name || isOneOf (names (drop (at + (n + 1)) list)) name)
+  one-on name h = rw (from-to list at n)
+      (ap (λ (l : List ℕ). isOneOf (names l) name) (cut-on h) ∙ one-front _ _ name clean-on)
 
-  pub one-here : (name : List ℕ) → n < length list - at → sameBytes (take (at + n - at) (drop at list)) name ≡ true → isOneOf (names (drop at list)) name ≡ true
+  pub one-here : (name : List ℕ) → n < length list - at → sameBytes (take (at + n - at) (drop at list)) name ≡ true
+      → isOneOf (names (drop at list)) name ≡ true
   one-here name h e = rw e at (one-on name h)
 
-  pub one-next : (name : List ℕ) → n < length list - at → sameBytes (take (at + n - at) (drop at list)) name ≡ false → isOneOf (names (drop at list)) name ≡ isOneOf (names (drop (at + (n + 1)) list)) name
+  pub one-next : (name : List ℕ) → n < length list - at → sameBytes (take (at + n - at) (drop at list)) name ≡ false
+      → isOneOf (names (drop at list)) name ≡ isOneOf (names (drop (at + (n + 1)) list)) name
   one-next name h e = rw e at (one-on name h)
 
   pub one-unended : (name : List ℕ) → length list - at ≤ n → isOneOf (names (drop at list)) name ≡ false
-  one-unended name h = ap (λ (ns : List (List ℕ)). isOneOf ns name) (names-none (drop at list) (clean-last h)) ∙ one-none name
+  one-unended name h = ap (λ (ns : List (List ℕ)). isOneOf ns name) (names-none (drop at list) (clean-last h))
+      ∙ one-none name
 
 -- at the end
 

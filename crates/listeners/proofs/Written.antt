@@ -1,5 +1,5 @@
--- A list is good exactly where it is written as the paper says: names of one or more non-zero bytes, each ended by one zero
--- byte, 512 bytes at most.
+-- A list is good exactly where it is written as the paper says: names of one or more
+-- non-zero bytes, each ended by one zero byte, 512 bytes at most.
 -- Assumes nothing.
 use mathlib.Core.Path.{_≡_, refl, ap, _∙_}
 use mathlib.Core.Bool.{Bool, true, false, cond}
@@ -33,7 +33,8 @@ pub record Written (list : List ℕ) (ns : List (List ℕ)) : Type 0 where
 pub names-ended : (ns : List (List ℕ)) → EachClean ns → names (ended ns) ≡ ns
 unfolding names ended
 names-ended [] k = refl
-names-ended (name ∷ ns) k = names-front name (ended ns) (k .0) ∙ ap (λ (r : List (List ℕ)). name ∷ r) (names-ended ns (k .1))
+names-ended (name ∷ ns) k = names-front name (ended ns) (k .0) ∙ ap (λ (r : List (List ℕ)). name ∷ r)
+    (names-ended ns (k .1))
 
 -- it is good
 pub written-good : (list : List ℕ) (ns : List (List ℕ)) → Written list ns → goodList list ≡ true
@@ -59,4 +60,10 @@ unfolding goodList allNames
 good-written list g =
     let h = both (leb (length list) LIST-MAX) (allNames list) g in
     let k = both (noneEmpty (names list)) (sameBytes (ended (names list)) list) (h .1) in
-    record { short = leb-true (length list) LIST-MAX (h .0); filled = k .0; clean = names-clean list; spelled = same-equal (ended (names list)) list (k .1) }
+    record {
+      short = leb-true (length list) LIST-MAX (h .0);
+      filled = k .0;
+      clean = names-clean list;
+      spelled =
+          same-equal (ended (names list)) list (k .1);
+    }

@@ -17,7 +17,8 @@ choice P true f g = f refl
 choice P false f g = g refl
 
 -- two choices by one test agree where their arms do
-pub each : {A B C : Type 0} (f : A → C) (g : B → C) (t : Bool) {a b : A} {c d : B} → f a ≡ g c → f b ≡ g d → f (cond t a b) ≡ g (cond t c d)
+pub each : {A B C : Type 0} (f : A → C) (g : B → C) (t : Bool) {a b : A} {c d : B} → f a ≡ g c → f b ≡ g d
+    → f (cond t a b) ≡ g (cond t c d)
 each f g true p q = p
 each f g false p q = q
 

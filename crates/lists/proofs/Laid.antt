@@ -28,18 +28,22 @@ unfolding laid
 laid-head x l b bs = laid-on b l 0 bs
 
 -- bytes that fit, laid: what stands before, the bytes, what stands behind
-pub laid-eq : (l : List ℕ) (at : ℕ) (bs : List ℕ) → at + length bs ≤ length l → laid l at bs ≡ take at l ++ (bs ++ drop (at + length bs) l)
+pub laid-eq : (l : List ℕ) (at : ℕ) (bs : List ℕ) → at + length bs ≤ length l
+    → laid l at bs ≡ take at l ++ (bs ++ drop (at + length bs) l)
 unfolding laid
 laid-eq l at bs h = sets-eq bs l at h ∙ append-assoc (take at l) bs (drop (at + length bs) l)
 
 -- bytes laid right behind bytes are the two together
-pub laid-behind : (l : List ℕ) (at : ℕ) (bs cs : List ℕ) → laid (laid l at bs) (at + length bs) cs ≡ laid l at (bs ++ cs)
+pub laid-behind : (l : List ℕ) (at : ℕ) (bs cs : List ℕ)
+    → laid (laid l at bs) (at + length bs) cs ≡ laid l at (bs ++ cs)
 unfolding laid
 laid-behind l at [] cs = let e : at + 0 ≡ at = omega arith in rw e
-laid-behind l at (b ∷ bs) cs = let e : at + suc (length bs) ≡ suc at + length bs = omega arith in rw e (laid-behind (set l at b) (suc at) bs cs)
+laid-behind l at (b ∷ bs) cs = let e : at + suc (length bs) ≡ suc at + length bs =
+    omega arith in rw e (laid-behind (set l at b) (suc at) bs cs)
 
 -- a buffer written from the front in two steps
-pub laid-next : (out mid after bs cs : List ℕ) (at : ℕ) → at ≡ length bs → mid ≡ laid out 0 bs → after ≡ laid mid at cs → after ≡ laid out 0 (bs ++ cs)
+pub laid-next : (out mid after bs cs : List ℕ) (at : ℕ) → at ≡ length bs → mid ≡ laid out 0 bs
+    → after ≡ laid mid at cs → after ≡ laid out 0 (bs ++ cs)
 laid-next out mid after bs cs at e f g =
     let h : at ≡ 0 + length bs = omega arith in
     g ∙ rw (f, h) (laid-behind out 0 bs cs)
@@ -51,7 +55,8 @@ laid-past l at [] h = refl
 laid-past l at (b ∷ bs) h = rw (set-out l at b h) (laid-past l (suc at) bs (omega arith))
 
 -- one turn of a copy: the byte at i is laid, and those behind it are still to come
-pub laid-turn : (l bs : List ℕ) (i : ℕ) → i < length bs → laid (set l i (getD bs i 0)) (i + 1) (drop (i + 1) bs) ≡ laid l i (drop i bs)
+pub laid-turn : (l bs : List ℕ) (i : ℕ) → i < length bs
+    → laid (set l i (getD bs i 0)) (i + 1) (drop (i + 1) bs) ≡ laid l i (drop i bs)
 unfolding laid
 laid-turn l bs i h = rw (add-one, drop-cons bs i 0 h)
 
@@ -74,7 +79,8 @@ pub front : (l bs : List ℕ) → length bs ≤ length l → take (length bs) (l
 front l bs h = rw (laid-eq l 0 bs (omega arith)) (take-at bs (drop (0 + length bs) l) (length bs) refl)
 
 -- laid over the end of a list from a place on
-pub laid-end-part : (l : List ℕ) (at : ℕ) (bs : List ℕ) → at ≤ length l → take at l ++ laid (drop at l) 0 bs ≡ laid l at bs
+pub laid-end-part : (l : List ℕ) (at : ℕ) (bs : List ℕ) → at ≤ length l
+    → take at l ++ laid (drop at l) 0 bs ≡ laid l at bs
 laid-end-part l zero bs h = refl
 laid-end-part [] (suc at) bs h = absurd (omega arith)
 laid-end-part (x ∷ l) (suc at) bs h = rw (laid-on x l at bs, laid-end-part l at bs (omega arith))
@@ -100,13 +106,16 @@ pub from-to : (l : List ℕ) (at n : ℕ) → take (at + n - at) (drop at l) ≡
 from-to l at n = rw add-sub-cancel-left
 
 -- a part that was lent from a place to the end, with bytes laid over its front
-pub back-end : (l : List ℕ) (at : ℕ) (part bs : List ℕ) → at ≤ length l → part ≡ laid (take (length l - at) (drop at l)) 0 bs → putMid at (length l - at) l part ≡ laid l at bs
+pub back-end : (l : List ℕ) (at : ℕ) (part bs : List ℕ) → at ≤ length l
+    → part ≡ laid (take (length l - at) (drop at l)) 0 bs → putMid at (length l - at) l part ≡ laid l at bs
 back-end l at part bs h e =
-    let none : drop (length l - at) (drop at l) ≡ [] = drop-of-length-le (drop at l) {i = length l - at} (rw length-drop (omega arith)) in
+    let none : drop (length l - at) (drop at l) ≡ [] =
+    drop-of-length-le (drop at l) {i = length l - at} (rw length-drop (omega arith)) in
     rw (e, to-end l at, none, append-nil) (laid-end-part l at bs h)
 
 -- a part that was lent from a up to e and has come back as bytes of its length
-pub back : (l : List ℕ) (a e : ℕ) (bs : List ℕ) → a ≤ e → e ≤ length l → length bs ≡ e - a → putMid a (e - a) l bs ≡ laid l a bs
+pub back : (l : List ℕ) (a e : ℕ) (bs : List ℕ) → a ≤ e → e ≤ length l → length bs ≡ e - a
+    → putMid a (e - a) l bs ≡ laid l a bs
 back l a e bs h k n =
     let f : a + length bs ≤ length l = omega arith in
     rw (laid-eq l a bs f, n, drop-drop)

@@ -1,5 +1,6 @@
 pub mod Cases
 pub mod Places
 pub mod Laid
+pub mod Moving
 pub mod Arrays
 pub mod One

@@ -7,6 +7,7 @@ use Rattle.lists.proofs.Cases.{same}
 use Rattle.lists.proofs.lesser.Reads as lesser
 use Rattle.lists.proofs.copy.Reads as copy
 use Rattle.lists.proofs.copy_at.Reads as copy-at
+use Rattle.lists.proofs.to_front.Reads as to-front
 use Rattle.lists.proofs.clear.Reads as clear
 use Rattle.lists.proofs.first_zero.Reads as first-zero
 
@@ -21,6 +22,10 @@ copy-one κs a r r′ s s′ p q = same p q
 pub copy-at-one : (κs : _) (a : _) (r r′ : _) (s s′ : _) → copy-at.Post κs a r s → copy-at.Post κs a r′ s′
     → now (s .0) ≡ now (s′ .0)
 copy-at-one κs a r r′ s s′ p q = same p q
+
+pub to-front-one : (κs : _) (a : _) (r r′ : _) (s s′ : _) → to-front.Post κs a r s → to-front.Post κs a r′ s′
+    → now (s .0) ≡ now (s′ .0)
+to-front-one κs a r r′ s s′ p q = same p q
 
 pub clear-one : (κs : _) (a : _) (r r′ : _) (s s′ : _) → clear.Post κs a r s → clear.Post κs a r′ s′
     → now (s .0) ≡ now (s′ .0)

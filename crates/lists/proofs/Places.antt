@@ -21,12 +21,15 @@ module _ {A : Type 0} (p : A → Bool) where
       go false h = omega arith
 
   -- behind a list in which nothing passes, the first that passes is found at the list's length
-  pub place-behind : (t : List A) (x : A) (rest : List A) → place p t ≡ length t → p x ≡ true → place p (t ++ (x ∷ rest)) ≡ length t
+  pub place-behind : (t : List A) (x : A) (rest : List A) → place p t ≡ length t → p x ≡ true
+      → place p (t ++ (x ∷ rest)) ≡ length t
   unfolding place
   place-behind [] x rest h e = rw e
   place-behind (y ∷ t) x rest h e = go (p y) h (λ k. place-behind t x rest k e)
     where
-      go : (b : Bool) → hereOr b (place p t) ≡ suc (length t) → (place p t ≡ length t → place p (t ++ (x ∷ rest)) ≡ length t) → hereOr b (place p (t ++ (x ∷ rest))) ≡ suc (length t)
+      go : (b : Bool) → hereOr b (place p t) ≡ suc (length t)
+          → (place p t ≡ length t → place p (t ++ (x ∷ rest)) ≡ length t)
+          → hereOr b (place p (t ++ (x ∷ rest))) ≡ suc (length t)
       go true k ih = absurd (omega arith)
       go false k ih = ap suc (ih (omega arith))
 
@@ -36,7 +39,8 @@ module _ {A : Type 0} (p : A → Bool) where
   place-passes [] d h = absurd (omega arith)
   place-passes (x ∷ t) d h = go (p x) refl (place-passes t d) h
     where
-      go : (b : Bool) → p x ≡ b → (place p t < length t → p (getD t (place p t) d) ≡ true) → hereOr b (place p t) < suc (length t) → p (getD (x ∷ t) (hereOr b (place p t)) d) ≡ true
+      go : (b : Bool) → p x ≡ b → (place p t < length t → p (getD t (place p t) d) ≡ true)
+          → hereOr b (place p t) < suc (length t) → p (getD (x ∷ t) (hereOr b (place p t)) d) ≡ true
       go true e ih k = e
       go false e ih k = ih (omega arith)
 
@@ -46,7 +50,8 @@ module _ {A : Type 0} (p : A → Bool) where
   place-none [] d z h i = z
   place-none (x ∷ t) d z h i = go (p x) refl (place-none t d z) h i
     where
-      go : (b : Bool) → p x ≡ b → (length t ≤ place p t → (i : ℕ) → p (getD t i d) ≡ false) → suc (length t) ≤ hereOr b (place p t) → (i : ℕ) → p (getD (x ∷ t) i d) ≡ false
+      go : (b : Bool) → p x ≡ b → (length t ≤ place p t → (i : ℕ) → p (getD t i d) ≡ false)
+          → suc (length t) ≤ hereOr b (place p t) → (i : ℕ) → p (getD (x ∷ t) i d) ≡ false
       go true e ih k i = absurd (omega arith)
       go false e ih k zero = e
       go false e ih k (suc i) = ih (omega arith) i
@@ -58,11 +63,13 @@ module _ {A : Type 0} (p : A → Bool) where
   place-all (x ∷ t) d h = rw (h 0, place-all t d (λ i. h (suc i)))
 
   -- the only one that passes is found
-  pub place-only : (t : List A) (d : A) (k : ℕ) → k < length t → p (getD t k d) ≡ true → ((i : ℕ) → p (getD t i d) ≡ true → i ≡ k) → place p t ≡ k
+  pub place-only : (t : List A) (d : A) (k : ℕ) → k < length t → p (getD t k d) ≡ true
+      → ((i : ℕ) → p (getD t i d) ≡ true → i ≡ k) → place p t ≡ k
   unfolding place
   place-only [] d k h e only = absurd (omega arith)
   place-only (x ∷ t) d zero h e only = rw e
-  place-only (x ∷ t) d (suc k) h e only = go (p x) refl (place-only t d k (omega arith) e (λ i g. omega (arith, only (suc i) g)))
+  place-only (x ∷ t) d (suc k) h e only =
+      go (p x) refl (place-only t d k (omega arith) e (λ i g. omega (arith, only (suc i) g)))
     where
       go : (b : Bool) → p x ≡ b → place p t ≡ k → hereOr b (place p t) ≡ suc k
       go true f ih = absurd (omega (arith, only 0 f))
@@ -76,18 +83,21 @@ module _ {A : Type 0} (p : A → Bool) where
   place-set (y ∷ t) (suc k) x d h = rw (place-set t k x d h)
 
   -- one that passes, set where none did
-  pub place-new : (t : List A) (k : ℕ) (x d : A) → ((i : ℕ) → p (getD t i d) ≡ false) → k < length t → p x ≡ true → place p (set t k x) ≡ k
+  pub place-new : (t : List A) (k : ℕ) (x d : A) → ((i : ℕ) → p (getD t i d) ≡ false) → k < length t → p x ≡ true
+      → place p (set t k x) ≡ k
   unfolding place
   place-new [] k x d h l e = absurd (omega arith)
   place-new (y ∷ t) zero x d h l e = rw e
   place-new (y ∷ t) (suc k) x d h l e = rw (h 0, place-new t k x d (λ i. h (suc i)) (omega arith) e)
 
   -- ---- a search by index, turn by turn: the invariant is `place p (drop i t) + i ≡ place p t`
-  pub search-hit : (t : List A) (i : ℕ) (d : A) → i < length t → p (getD t i d) ≡ true → place p (drop i t) + i ≡ place p t → i ≡ place p t
+  pub search-hit : (t : List A) (i : ℕ) (d : A) → i < length t → p (getD t i d) ≡ true
+      → place p (drop i t) + i ≡ place p t → i ≡ place p t
   unfolding place
   search-hit t i d h e inv = omega (arith, rw (drop-cons t i d h, e) at inv)
 
-  pub search-miss : (t : List A) (i : ℕ) (d : A) → i < length t → p (getD t i d) ≡ false → place p (drop i t) + i ≡ place p t → place p (drop (i + 1) t) + (i + 1) ≡ place p t
+  pub search-miss : (t : List A) (i : ℕ) (d : A) → i < length t → p (getD t i d) ≡ false
+      → place p (drop i t) + i ≡ place p t → place p (drop (i + 1) t) + (i + 1) ≡ place p t
   unfolding place
   search-miss t i d h e inv = rw add-one (omega (arith, rw (drop-cons t i d h, e) at inv))
 

@@ -6,7 +6,8 @@ use lib.Dec.{eqb}
 use lib.ListN.{replicate}
 use lib.Seq.{sets}
 
--- the list with the bytes in it from a place on. Its other bytes stay, and bytes that would reach past its end fall away
+-- the list with the bytes in it from a place on. Its other bytes stay, and
+-- bytes that would reach past its end fall away
 unfoldable pub laid : List ℕ → ℕ → List ℕ → List ℕ
 laid list at bytes = sets list at bytes
 

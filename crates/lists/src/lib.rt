@@ -1,10 +1,10 @@
 // Byte slices, and the lists that contracts speak of.
 //
 // specs/ has the definitions that every other crate cites: the first place that passes a test, bytes laid over a list,
-// zeros. proofs/ has their laws. The functions are the only loops over bytes. Each takes slices of any length.
+// zeros. proofs/ has their laws. The functions copy, clear and look for a zero byte. Each takes slices of any length.
 ghost use mathlib.Core.Path.{_≡_};
 ghost use Prim.Native.Nat.{min};
-ghost use lib.ListN.{length};
+ghost use lib.ListN.{length, drop};
 ghost use Rattle.lists.specs.Bytes.{laid, zeros, isZero};
 ghost use Rattle.lists.specs.Places.{place};
 
@@ -35,6 +35,17 @@ pub fn copy_at(part: &mut [u8], at: usize, block: &[u8])
         return;
     }
     copy(&mut part[at..], block);
+}
+
+// Moves the bytes from a place on to the front. Bytes behind where they come to stay.
+pub fn to_front(bytes: &mut [u8], from: usize)
+    ensures { λ _. ⌜ now (bytes .exit) ≡ laid (now (bytes .entry)) 0 (drop from (now (bytes .entry))) ⌝ }
+{
+    let mut i = from;
+    while i < bytes.len() {
+        bytes[i - from] = bytes[i];
+        i += 1;
+    }
 }
 
 // Every byte of the part becomes zero.

@@ -61,6 +61,7 @@ pub status-one : (κs : _) (a : _) (r r′ : _) (s s′ : _) → status.Post κs
     → r ≡ r′
 status-one κs a r r′ s s′ p q = same p q
 
-pub status-bytes-one : (κs : _) (a : _) (r r′ : _) (s s′ : _) → status-bytes.Post κs a r s → status-bytes.Post κs a r′ s′
+pub status-bytes-one : (κs : _) (a : _) (r r′ : _) (s s′ : _) → status-bytes.Post κs a r s
+    → status-bytes.Post κs a r′ s′
     → r ≡ r′
 status-bytes-one κs a r r′ s s′ p q = same p q

@@ -18,7 +18,7 @@ use mir.Facts.{toZ-pos, toZ-ofZ}
 use lib.ListN.{length}
 use lib.Seq.{take-all}
 use Rattle.lists.proofs.Cases.{lt-or-le, true-not-false}
-use Rattle.numbers.specs.Numbers.{Bytes, little, bytesOf}
+use Rattle.numbers.specs.Numbers.{Bytes, NUMBERS, little, bytesOf}
 use Rattle.numbers.specs.Status.{signedOf, unsignedOf, statusOf, statusBytes, isSuccess}
 use Rattle.numbers.proofs.Widths.{length-bytesOf, little-below, little-bytesOf, bytesOf-little}
 
@@ -57,7 +57,8 @@ unfolding unsignedOf
 up (pos n) f t = ((tt, record { fits = omega (arith, f .sfits) }), refl)
 up (negsuc n) f t = absurd (true-not-false (sym t))
 
-pub up-back : (z : ℤ) → SFits w32 z → leZ (pos 0) (back z) ≡ true → (T (nonNeg (back z)) × Fits w32 (natAbs (back z))) × (natAbs (back z) ≡ unsignedOf z)
+pub up-back : (z : ℤ) → SFits w32 z → leZ (pos 0) (back z) ≡ true
+    → (T (nonNeg (back z)) × Fits w32 (natAbs (back z))) × (natAbs (back z) ≡ unsignedOf z)
 up-back z f t = rw (toZ-ofZ f) (up z f (rw (toZ-ofZ f) at t))
 
 pub record Down (z d : ℤ) : Type 0 where
@@ -89,7 +90,7 @@ signed-unsigned (negsuc n) f =
     let e : 4294967295 - (4294967295 - n) ≡ n = omega arith in
     simp (le-ltb (4294967295 - n) 2147483648 (omega arith), e)
 
-pub unsigned-signed : (v : ℕ) → v < 4294967296 → unsignedOf (signedOf v) ≡ v
+pub unsigned-signed : (v : ℕ) → v < NUMBERS → unsignedOf (signedOf v) ≡ v
 unfolding signedOf unsignedOf
 unsigned-signed v h =
     ⊎-elim
@@ -97,7 +98,7 @@ unsigned-signed v h =
     (λ (a : 2147483648 ≤ v). simp (le-ltb v 2147483648 a) (omega arith))
     (lt-or-le v 2147483648)
 
-pub unsigned-below : (z : ℤ) → SFits w32 z → unsignedOf z < 4294967296
+pub unsigned-below : (z : ℤ) → SFits w32 z → unsignedOf z < NUMBERS
 unfolding unsignedOf
 unsigned-below (pos n) f = let h = f .sfits in omega arith
 unsigned-below (negsuc n) f = let h = f .sfits in omega arith
@@ -125,7 +126,8 @@ edges = pos 0 ∷ pos 2147483647 ∷ negsuc 2147483647 ∷ negsuc 2147023727 ∷
 
 pub exact :
     map statusBytes edges
-    ≡ (0 ∷ 0 ∷ 0 ∷ 0 ∷ []) ∷ (255 ∷ 255 ∷ 255 ∷ 127 ∷ []) ∷ (0 ∷ 0 ∷ 0 ∷ 128 ∷ []) ∷ (144 ∷ 4 ∷ 7 ∷ 128 ∷ []) ∷ (14 ∷ 0 ∷ 7 ∷ 128 ∷ []) ∷ []
+    ≡ (0 ∷ 0 ∷ 0 ∷ 0 ∷ []) ∷ (255 ∷ 255 ∷ 255 ∷ 127 ∷ []) ∷ (0 ∷ 0 ∷ 0 ∷ 128 ∷ []) ∷ (144 ∷ 4 ∷ 7 ∷ 128 ∷ [])
+    ∷ (14 ∷ 0 ∷ 7 ∷ 128 ∷ []) ∷ []
 unfolding edges statusBytes unsignedOf bytesOf
 exact = refl
 

@@ -26,11 +26,13 @@ pub width-le : (code : ℕ) → widthOf code ≤ 4
 unfolding widthOf
 width-le code =
     choice (λ (n : ℕ). n ≤ 4) (eqb code 0) (λ _. lit≤ tt)
-    (λ _. choice (λ (n : ℕ). n ≤ 4) (eqb code 1) (λ _. lit≤ tt) (λ _. choice (λ (n : ℕ). n ≤ 4) (eqb code 2) (λ _. lit≤ tt) (λ _. lit≤ tt)))
+    (λ _. choice (λ (n : ℕ). n ≤ 4) (eqb code 1) (λ _. lit≤ tt)
+    (λ _. choice (λ (n : ℕ). n ≤ 4) (eqb code 2) (λ _. lit≤ tt) (λ _. lit≤ tt)))
 
 pub code-le : (v : ℕ) → codeFor v ≤ 2
 unfolding codeFor
-code-le v = choice (λ (n : ℕ). n ≤ 2) (ltb v 256) (λ _. lit≤ tt) (λ _. choice (λ (n : ℕ). n ≤ 2) (ltb v 65536) (λ _. lit≤ tt) (λ _. lit≤ tt))
+code-le v = choice (λ (n : ℕ). n ≤ 2) (ltb v 256) (λ _. lit≤ tt)
+    (λ _. choice (λ (n : ℕ). n ≤ 2) (ltb v 65536) (λ _. lit≤ tt) (λ _. lit≤ tt))
 
 pub narrowest-le : (v : ℕ) → narrowest v ≤ 4
 unfolding narrowest
@@ -39,7 +41,8 @@ narrowest-le v = width-le (codeFor v)
 -- a number has a byte
 pub narrowest-pos : (v : ℕ) → 1 ≤ narrowest v
 unfolding narrowest widthOf codeFor
-narrowest-pos v = choice (λ (c : ℕ). 1 ≤ widthOf c) (ltb v 256) (λ _. lit≤ tt) (λ _. choice (λ (c : ℕ). 1 ≤ widthOf c) (ltb v 65536) (λ _. lit≤ tt) (λ _. lit≤ tt))
+narrowest-pos v = choice (λ (c : ℕ). 1 ≤ widthOf c) (ltb v 256) (λ _. lit≤ tt)
+    (λ _. choice (λ (c : ℕ). 1 ≤ widthOf c) (ltb v 65536) (λ _. lit≤ tt) (λ _. lit≤ tt))
 
 pub length-narrow : (v : ℕ) → length (narrowBytes v) ≡ narrowest v
 unfolding narrowBytes
@@ -102,7 +105,8 @@ little-below (suc n) (x ∷ bs) h =
 pub value-below : (l : List ℕ) (at n : ℕ) → n ≤ 4 → Bytes l → valueAt l at n < 256 ^ n
 unfolding valueAt valueOf
 value-below l at n h b =
-    let t : take 4 (take n (drop at l)) ≡ take n (drop at l) = take-all 4 (take n (drop at l)) (simp length-take (omega arith)) in
+    let t : take 4 (take n (drop at l)) ≡ take n (drop at l) =
+    take-all 4 (take n (drop at l)) (simp length-take (omega arith)) in
     rw t (little-below n (drop at l) (λ i. rw getD-drop (b (at + i))))
 
 -- ---- reading what was written
@@ -112,11 +116,13 @@ pub little-bytesOf : (n v : ℕ) → v < 256 ^ n → little (bytesOf n v) ≡ v
 unfolding little bytesOf
 little-bytesOf zero v h = omega arith
 little-bytesOf (suc n) v h =
-    let e : little (bytesOf n (v / 256)) ≡ v / 256 = little-bytesOf n (v / 256) (div-lt-iff-lt-mul (lit< tt) .1 (rw pow-suc at h)) in
+    let e : little (bytesOf n (v / 256)) ≡ v / 256 =
+    little-bytesOf n (v / 256) (div-lt-iff-lt-mul (lit< tt) .1 (rw pow-suc at h)) in
     rw e (mod-add-div v 256)
 
 -- a number is its value, whatever its width
-pub value-in : (p q : List ℕ) (n v at : ℕ) → length p ≡ at → n ≤ 4 → v < 256 ^ n → valueAt (p ++ (bytesOf n v ++ q)) at n ≡ v
+pub value-in : (p q : List ℕ) (n v at : ℕ) → length p ≡ at → n ≤ 4 → v < 256 ^ n
+    → valueAt (p ++ (bytesOf n v ++ q)) at n ≡ v
 unfolding valueAt valueOf
 value-in p q n v at e k h =
     let b = bytesOf n v in
@@ -155,7 +161,8 @@ low-bytes (suc n) zero v h = absurd (omega arith)
 low-bytes (suc n) (suc m) v h = ap (λ (l : List ℕ). v % 256 ∷ l) (low-bytes n m (v / 256) (omega arith))
 
 -- four bytes, each by its place
-pub little-four : (b : List ℕ) → length b ≡ 4 → little b ≡ getD b 0 0 + 256 * (getD b 1 0 + 256 * (getD b 2 0 + 256 * getD b 3 0))
+pub little-four : (b : List ℕ) → length b ≡ 4
+    → little b ≡ getD b 0 0 + 256 * (getD b 1 0 + 256 * (getD b 2 0 + 256 * getD b 3 0))
 unfolding little
 little-four [] h = absurd (omega arith)
 little-four (b ∷ []) h = absurd (omega arith)

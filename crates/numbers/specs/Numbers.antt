@@ -9,7 +9,7 @@ use lib.ListN.{take, drop, getD}
 abbrev pub Bytes : List ℕ → Type 0
 Bytes l = (i : ℕ) → getD l i 0 < 256
 
--- four bytes hold the numbers below this
+-- how many numbers four bytes hold
 abbrev pub NUMBERS : ℕ
 NUMBERS = 4294967296
 

@@ -1,4 +1,5 @@
--- Two outcomes that the contract permits are equal. `Reads.Post` is the contract that the source states, read as plain facts.
+-- Two outcomes that the contract permits are equal. `Reads.Post` is the
+-- contract that the source states, read as plain facts.
 -- Assumes nothing.
 use mathlib.Core.Path.{_≡_, sym, _∙_}
 use Rattle.paper.proofs.number.Reads as number

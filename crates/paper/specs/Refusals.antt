@@ -1,11 +1,12 @@
 -- The refusals' numbers. The type and the sentence of each stand in src/lib.rt.
 use Prim.Native.Nat.{ℕ}
 use Rattle.paper.specs.declared.Refusal.{Refusal}
-use Rattle.paper.specs.declared.Refusal.the-variants.{WrongSize, CutShort, TooLong, NoCommand, BadField,
-    BadList, WrongTime, NotOpen, AlreadyOpen, StillJoining, OverLimit, PastLength, IsSpoiled, NoStart}
+use Rattle.paper.specs.declared.Refusal.the-variants.{BadCall, CutShort, TooLong, NoCommand, BadField}
+use Rattle.paper.specs.declared.Refusal.the-variants.{BadList, WrongTime, NotOpen, AlreadyOpen, StillJoining}
+use Rattle.paper.specs.declared.Refusal.the-variants.{OverLimit, PastLength, IsSpoiled, NoStart}
 
 abbrev pub refusalNumber : Refusal → ℕ
-refusalNumber WrongSize = 1
+refusalNumber BadCall = 1
 refusalNumber CutShort = 2
 refusalNumber TooLong = 3
 refusalNumber NoCommand = 4

@@ -48,7 +48,7 @@ pub const FULL: i32 = -2147024882;
 // Why an entry refuses: the paper's table, with its number and its sentence beside each name.
 pub enum Refusal {
     // 1: store, reply or PDU buffer is not of its size, or the table passed in is unsound.
-    WrongSize,
+    BadCall,
     // 2: the PDU is empty, or ends inside a field or before the name's zero.
     CutShort,
     // 3: the PDU is longer than 1,600.
@@ -84,7 +84,7 @@ pub fn number(refusal: Refusal) -> u8
     ensures { λ n. ⌜ n ≡ refusalNumber refusal ⌝ }
 {
     match refusal {
-        Refusal::WrongSize => 1,
+        Refusal::BadCall => 1,
         Refusal::CutShort => 2,
         Refusal::TooLong => 3,
         Refusal::NoCommand => 4,

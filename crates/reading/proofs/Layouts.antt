@@ -20,13 +20,52 @@ use Rattle.lists.specs.Places.{place}
 use Rattle.numbers.specs.Numbers.{little, valueOf, valueAt, widthOf}
 use Rattle.paper.proofs.Rows.{held, passed, none-held}
 use Rattle.paper.specs.Rows.{Verdict, fine, refusedWith, Row, row, firstHeld}
-use Rattle.reading.specs.Reading.{readPdu, byCommand, numbered, badLengthWidth, afterNumber, createRequest, namedFor,
-    createResponse, dataFirst, closing, capabilities, byVersion, charged}
+use Rattle.reading.specs.Reading.{
+  readPdu,
+  byCommand,
+  numbered,
+  badLengthWidth,
+  afterNumber,
+  createRequest,
+  namedFor,
+  createResponse,
+  dataFirst,
+  closing,
+  capabilities,
+  byVersion,
+  charged,
+}
 use Rattle.reading.specs.declared.Pdu.{Pdu}
-use Rattle.reading.specs.declared.Pdu.the-variants.{CreateRequest, CreateResponse, DataFirst, Data, Close, CapsRequest,
-    CapsResponse, Refused}
-use Rattle.reading.specs.Layouts.{Field, any, Tail, no-more, any-bytes, a-name, Layout, pad, versionField, charges, layoutOf,
-    rowsOfTail, rowsOfFields, rowsOfLayout, badCbId, rowsOfBytes, readingRows, verdictOn}
+use Rattle.reading.specs.declared.Pdu.the-variants.{
+  CreateRequest,
+  CreateResponse,
+  DataFirst,
+  Data,
+  Close,
+  CapsRequest,
+  CapsResponse,
+  Refused,
+}
+use Rattle.reading.specs.Layouts.{
+  Field,
+  any,
+  Tail,
+  no-more,
+  any-bytes,
+  a-name,
+  Layout,
+  pad,
+  versionField,
+  charges,
+  layoutOf,
+  rowsOfTail,
+  rowsOfFields,
+  rowsOfLayout,
+  badCbId,
+  rowsOfBytes,
+  readingRows,
+  verdictOn,
+}
 
 -- what reading answers is what the rows say
 abbrev Reads : List Row → Pdu → Type 0

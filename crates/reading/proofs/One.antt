@@ -4,12 +4,7 @@
 use mathlib.Core.Path.{_≡_}
 use Rattle.lists.proofs.Cases.{same}
 use Rattle.reading.proofs.read.Reads as read
-use Rattle.reading.proofs.number.Reads as number
 
 pub read-one : (κs : _) (a : _) (r r′ : _) (s s′ : _) → read.Post κs a r s → read.Post κs a r′ s′
     → r ≡ r′
 read-one κs a r r′ s s′ p q = same p q
-
-pub number-one : (κs : _) (a : _) (r r′ : _) (s s′ : _) → number.Post κs a r s → number.Post κs a r′ s′
-    → r ≡ r′
-number-one κs a r r′ s s′ p q = same p q

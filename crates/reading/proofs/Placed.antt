@@ -11,22 +11,24 @@ use lib.Dec.{eqb, ltb, leb}
 use lib.ListN.{length, drop, getD}
 use Rattle.paper.specs.Sizes.{PDU-MAX}
 use Rattle.paper.specs.declared.Refusal.{Refusal}
-use Rattle.paper.specs.declared.Refusal.the-variants.{WrongSize, CutShort, TooLong, NoCommand, BadField, BadList, WrongTime, NotOpen,
-    AlreadyOpen, StillJoining, OverLimit, PastLength, IsSpoiled, NoStart}
+use Rattle.paper.specs.declared.Refusal.the-variants.{BadCall, CutShort, TooLong, NoCommand, BadField, BadList}
+use Rattle.paper.specs.declared.Refusal.the-variants.{WrongTime, NotOpen, AlreadyOpen, StillJoining, OverLimit}
+use Rattle.paper.specs.declared.Refusal.the-variants.{PastLength, IsSpoiled, NoStart}
 use Rattle.paper.specs.Commands.{CREATE, DATA-FIRST, DATA, CAPABILITIES}
 use Rattle.lists.specs.Places.{place}
 use Rattle.lists.specs.Bytes.{isZero}
 use Rattle.lists.proofs.Cases.{choice}
 use Rattle.numbers.specs.Numbers.{valueAt, widthOf}
-use Rattle.reading.specs.Reading.{readPdu, byCommand, numbered, badLengthWidth, afterNumber, createRequest, namedFor,
-    createResponse, dataFirst, closing, capabilities, byVersion, charged}
+use Rattle.reading.specs.Reading.{readPdu, byCommand, numbered, badLengthWidth, afterNumber, createRequest}
+use Rattle.reading.specs.Reading.{namedFor, createResponse, dataFirst, closing, capabilities, byVersion}
+use Rattle.reading.specs.Reading.{charged}
 use Rattle.reading.specs.declared.Pdu.{Pdu}
-use Rattle.reading.specs.declared.Pdu.the-variants.{CreateRequest, CreateResponse, DataFirst, Data, Close, CapsRequest,
-    CapsResponse, Refused}
+use Rattle.reading.specs.declared.Pdu.the-variants.{CreateRequest, CreateResponse, DataFirst, Data, Close}
+use Rattle.reading.specs.declared.Pdu.the-variants.{CapsRequest, CapsResponse, Refused}
 
 -- the refusals that reading gives
 abbrev pub ReadingRefusal : Refusal → Type 0
-ReadingRefusal WrongSize = ⊥
+ReadingRefusal BadCall = ⊥
 ReadingRefusal CutShort = Unit {0}
 ReadingRefusal TooLong = Unit {0}
 ReadingRefusal NoCommand = Unit {0}
@@ -52,7 +54,8 @@ Placed pdu (CapsResponse version) = (1 ≤ version) × (version ≤ 3)
 Placed pdu (Refused why) = ReadingRefusal why
 
 module _ (pdu : List ℕ) where
-  named : (number class at len : ℕ) → at ≤ length pdu → class ≤ 3 → Placed pdu (namedFor (length pdu - at) number class at len)
+  named : (number class at len : ℕ) → at ≤ length pdu → class ≤ 3
+      → Placed pdu (namedFor (length pdu - at) number class at len)
   unfolding namedFor
   named number class at len h k =
       choice (Placed pdu) (leb (length pdu - at) len) (λ e. tt)
@@ -68,23 +71,25 @@ module _ (pdu : List ℕ) where
   begun : (number width at : ℕ) → Placed pdu (dataFirst pdu number width at)
   unfolding dataFirst
   begun number width at =
-      choice (Placed pdu) (ltb (length pdu) (at + width)) (λ e. tt) (λ e. omega (arith, ltb-false (length pdu) (at + width) e))
+      choice (Placed pdu) (ltb (length pdu) (at + width)) (λ e. tt)
+      (λ e. omega (arith, ltb-false (length pdu) (at + width) e))
 
   closed : (number at : ℕ) → Placed pdu (closing pdu number at)
   unfolding closing
   closed number at = choice (Placed pdu) (ltb at (length pdu)) (λ e. tt) (λ e. tt)
 
-  after :
-      (fromServer : Bool) (cmd middle number at : ℕ) → at ≤ length pdu → middle ≤ 3
+  after : (fromServer : Bool) (cmd middle number at : ℕ) → at ≤ length pdu → middle ≤ 3
       → Placed pdu (afterNumber fromServer pdu cmd middle number at)
   unfolding afterNumber createRequest
   after fromServer cmd middle number at h k =
       choice (Placed pdu) (eqb cmd CREATE)
-      (λ e. choice (Placed pdu) fromServer (λ f. named number middle at (place isZero (drop at pdu)) h k) (λ f. answered number at))
+      (λ e. choice (Placed pdu) fromServer (λ f. named number middle at (place isZero (drop at pdu)) h k)
+      (λ f. answered number at))
       (λ e. choice (Placed pdu) (eqb cmd DATA-FIRST) (λ f. begun number (widthOf middle) at)
       (λ f. choice (Placed pdu) (eqb cmd DATA) (λ g. omega arith) (λ g. closed number at)))
 
-  with-number : (fromServer : Bool) (cmd middle cbId : ℕ) → middle ≤ 3 → Placed pdu (numbered fromServer pdu cmd middle cbId)
+  with-number : (fromServer : Bool) (cmd middle cbId : ℕ) → middle ≤ 3
+      → Placed pdu (numbered fromServer pdu cmd middle cbId)
   unfolding numbered
   with-number fromServer cmd middle cbId k =
       choice (Placed pdu) (eqb cbId 3) (λ e. tt)
@@ -96,7 +101,8 @@ module _ (pdu : List ℕ) where
   unfolding charged
   requested version h k =
       choice (Placed pdu) (eqb version 1) (λ e. choice (Placed pdu) (ltb 4 (length pdu)) (λ f. tt) (λ f. (h, k)))
-      (λ e. choice (Placed pdu) (ltb (length pdu) 12) (λ f. tt) (λ f. choice (Placed pdu) (ltb 12 (length pdu)) (λ g. tt) (λ g. (h, k))))
+      (λ e. choice (Placed pdu) (ltb (length pdu) 12) (λ f. tt)
+      (λ f. choice (Placed pdu) (ltb 12 (length pdu)) (λ g. tt) (λ g. (h, k))))
 
   versioned : (fromServer : Bool) (version : ℕ) → Placed pdu (byVersion fromServer pdu version)
   unfolding byVersion
@@ -105,7 +111,8 @@ module _ (pdu : List ℕ) where
       (λ e. choice (Placed pdu) (ltb 3 version) (λ f. tt)
       (λ f. let h = ltb-false version 1 e in
       let k = ltb-false 3 version f in
-      choice (Placed pdu) fromServer (λ g. requested version h k) (λ g. choice (Placed pdu) (ltb 4 (length pdu)) (λ i. tt) (λ i. (h, k)))))
+      choice (Placed pdu) fromServer (λ g. requested version h k)
+      (λ g. choice (Placed pdu) (ltb 4 (length pdu)) (λ i. tt) (λ i. (h, k)))))
 
   capable : (fromServer : Bool) (cbId : ℕ) → Placed pdu (capabilities fromServer pdu cbId)
   unfolding capabilities
@@ -115,12 +122,14 @@ module _ (pdu : List ℕ) where
       (λ f. choice (Placed pdu) (not (eqb (getD pdu 1 0) 0)) (λ g. tt)
       (λ g. choice (Placed pdu) (ltb (length pdu) 4) (λ i. tt) (λ i. versioned fromServer (valueAt pdu 2 2)))))
 
-  commanded : (fromServer : Bool) (cmd middle cbId : ℕ) → middle ≤ 3 → Placed pdu (byCommand fromServer pdu cmd middle cbId)
+  commanded : (fromServer : Bool) (cmd middle cbId : ℕ) → middle ≤ 3
+      → Placed pdu (byCommand fromServer pdu cmd middle cbId)
   unfolding byCommand
   commanded fromServer cmd middle cbId k =
       choice (Placed pdu) (ltb cmd CREATE) (λ e. tt)
       (λ e. choice (Placed pdu) (ltb CAPABILITIES cmd) (λ f. tt)
-      (λ f. choice (Placed pdu) (eqb cmd CAPABILITIES) (λ g. capable fromServer cbId) (λ g. with-number fromServer cmd middle cbId k)))
+      (λ f. choice (Placed pdu) (eqb cmd CAPABILITIES) (λ g. capable fromServer cbId)
+      (λ g. with-number fromServer cmd middle cbId k)))
 
   pub placed : (fromServer : Bool) → Placed pdu (readPdu fromServer pdu)
   unfolding readPdu

@@ -1,7 +1,8 @@
--- What reading a PDU finds: "Bytes of a PDU", and its part of "Refusal numbers": "Reading: empty 2, too long 3,
--- then Cmd, cbId, the Length width, then fields from left to right, each ended (2) before its value is judged (5);
--- bytes left over last." Each definition is a list of refusals from top to bottom, of which the first that holds is
--- given, and then what is found.
+-- What reading a PDU finds: "Bytes of a PDU", and its part of "Refusal numbers":
+--   "Reading: empty 2, too long 3, then Cmd, cbId, the Length width, then fields from left to right, each ended (2)
+--   before its value is judged (5); bytes left over last."
+-- Each definition is a list of refusals from top to bottom, of which the
+-- first that holds is given, and then what is found.
 use Prim.Native.Nat.{ℕ, _+_, _-_, _/_, _%_}
 use mathlib.Core.Bool.{Bool, cond, not, _&&_}
 use mathlib.Core.List.{List}
@@ -17,15 +18,15 @@ use Rattle.numbers.specs.Numbers.{valueAt, widthOf}
 use Rattle.numbers.specs.Status.{statusOf}
 use Rattle.reading.specs.declared.Charges.{Charges}
 use Rattle.reading.specs.declared.Pdu.{Pdu}
-use Rattle.reading.specs.declared.Pdu.the-variants.{CreateRequest, CreateResponse, DataFirst, Data, Close,
-    CapsRequest, CapsResponse, Refused}
+use Rattle.reading.specs.declared.Pdu.the-variants.{CreateRequest, CreateResponse, DataFirst, Data, Close}
+use Rattle.reading.specs.declared.Pdu.the-variants.{CapsRequest, CapsResponse, Refused}
 
 -- the refusal where the test holds, and else the rest
 abbrev pub refuse : Refusal → Bool → Pdu → Pdu
 refuse why test rest = cond test (Refused why) rest
 
--- "number; name; one zero byte, the last of the PDU": the name's length is the place of the first zero behind the
--- number
+-- "number; name; one zero byte, the last of the PDU": the name's length is
+-- the place of the first zero behind the number
 unfoldable pub namedFor : ℕ → ℕ → ℕ → ℕ → ℕ → Pdu
 namedFor left number class at len =
     refuse CutShort (leb left len)

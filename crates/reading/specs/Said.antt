@@ -7,19 +7,8 @@ use Rattle.paper.specs.Commands.{CREATE, DATA-FIRST, DATA, CLOSE, CAPABILITIES}
 use Rattle.paper.specs.Refusals.{refusalNumber}
 use Rattle.reading.specs.declared.Place.{Place}
 use Rattle.reading.specs.declared.Pdu.{Pdu}
-use Rattle.reading.specs.declared.Pdu.the-variants.{CreateRequest, CreateResponse, DataFirst, Data, Close,
-    CapsRequest, CapsResponse, Refused}
-
--- the paper's number: Cmd, or the refusal's
-abbrev pub paperNumber : Pdu → ℕ
-paperNumber (CreateRequest number class name) = CREATE
-paperNumber (CreateResponse number status) = CREATE
-paperNumber (DataFirst number len block) = DATA-FIRST
-paperNumber (Data number block) = DATA
-paperNumber (Close number) = CLOSE
-paperNumber (CapsRequest version charges) = CAPABILITIES
-paperNumber (CapsResponse version) = CAPABILITIES
-paperNumber (Refused refusal) = refusalNumber refusal
+use Rattle.reading.specs.declared.Pdu.the-variants.{CreateRequest, CreateResponse, DataFirst, Data, Close}
+use Rattle.reading.specs.declared.Pdu.the-variants.{CapsRequest, CapsResponse, Refused}
 
 -- the bytes at a place of the PDU
 unfoldable pub bytesAt : List ℕ → Place → List ℕ
@@ -37,6 +26,8 @@ said pdu (CreateResponse number status) = row CREATE (pos number ∷ status ∷ 
 said pdu (DataFirst number len block) = row DATA-FIRST (pos number ∷ pos len ∷ []) (bytesAt pdu block)
 said pdu (Data number block) = row DATA (pos number ∷ []) (bytesAt pdu block)
 said pdu (Close number) = row CLOSE (pos number ∷ []) []
-said pdu (CapsRequest version charges) = row CAPABILITIES (pos version ∷ pos (charges .class0) ∷ pos (charges .class1) ∷ pos (charges .class2) ∷ pos (charges .class3) ∷ []) []
+said pdu (CapsRequest version charges) =
+    row CAPABILITIES
+    (pos version ∷ pos (charges .class0) ∷ pos (charges .class1) ∷ pos (charges .class2) ∷ pos (charges .class3) ∷ []) []
 said pdu (CapsResponse version) = row CAPABILITIES (pos version ∷ []) []
 said pdu (Refused why) = refusal (refusalNumber why)

@@ -13,8 +13,9 @@ ghost use mathlib.Core.Path.{_≡_};
 ghost use Prim.Native.Nat.{_+_, _≤_};
 ghost use lib.ListN.{length};
 ghost use Rattle.numbers.specs.Numbers.{valueAt};
-ghost use Rattle.reading.specs.Reading.{readPdu, byCommand, numbered, badLengthWidth, afterNumber, createRequest, createResponse, dataFirst, closing, capabilities, byVersion, charged};
-ghost use Rattle.reading.specs.Said.{paperNumber};
+ghost use Rattle.reading.specs.Reading.{readPdu, byCommand, numbered, badLengthWidth, afterNumber};
+ghost use Rattle.reading.specs.Reading.{createRequest, createResponse, dataFirst, closing};
+ghost use Rattle.reading.specs.Reading.{capabilities, byVersion, charged};
 
 // Where in the PDU a name or data stands. It may be empty.
 pub struct Place {
@@ -298,37 +299,4 @@ pub fn read(pdu: &[u8], from_server: bool) -> Pdu
     }
     let first = pdu[0];
     by_command(pdu, from_server, first / 16, first / 4 % 4, first % 4)
-}
-
-// The paper's number of what was read: Cmd, or the refusal number.
-pub fn number(pdu: Pdu) -> u8
-    ensures { λ r. ⌜ r ≡ paperNumber pdu ⌝ }
-{
-    match pdu {
-        Pdu::CreateRequest {
-            number: _,
-            class: _,
-            name: _,
-        } => paper::CREATE,
-        Pdu::CreateResponse {
-            number: _,
-            status: _,
-        } => paper::CREATE,
-        Pdu::DataFirst {
-            number: _,
-            length: _,
-            block: _,
-        } => paper::DATA_FIRST,
-        Pdu::Data {
-            number: _,
-            block: _,
-        } => paper::DATA,
-        Pdu::Close { number: _ } => paper::CLOSE,
-        Pdu::CapsRequest {
-            version: _,
-            charges: _,
-        } => paper::CAPABILITIES,
-        Pdu::CapsResponse { version: _ } => paper::CAPABILITIES,
-        Pdu::Refused(refusal) => paper::number(refusal),
-    }
 }

@@ -4,7 +4,12 @@
 use mathlib.Core.Path.{_≡_}
 use Rattle.lists.proofs.Cases.{same}
 use Rattle.records.proofs.whole.Reads as whole
+use Rattle.records.proofs.due_for.Reads as due-for
 
 pub whole-one : (κs : _) (a : _) (r r′ : _) (s s′ : _) → whole.Post κs a r s → whole.Post κs a r′ s′
     → r ≡ r′
 whole-one κs a r r′ s s′ p q = same p q
+
+pub due-for-one : (κs : _) (a : _) (r r′ : _) (s s′ : _) → due-for.Post κs a r s → due-for.Post κs a r′ s′
+    → r ≡ r′
+due-for-one κs a r r′ s s′ p q = same p q

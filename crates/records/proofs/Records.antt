@@ -18,7 +18,9 @@ unfolding wholeOf
 whole-fits input =
     choice (λ (n : ℕ). (n ≤ length input) × ((0 < n) → LENGTH ≤ n)) (ltb (length input) LENGTH)
     (λ h. (omega arith, λ g. absurd (omega arith)))
-    (λ h. choice (λ (n : ℕ). (n ≤ length input) × ((0 < n) → LENGTH ≤ n)) (ltb (length input) (LENGTH + announced input)) (λ g. (omega arith, λ k. absurd (omega arith))) (λ g. (ltb-false _ _ g, λ k. omega arith)))
+    (λ h. choice (λ (n : ℕ). (n ≤ length input) × ((0 < n) → LENGTH ≤ n))
+    (ltb (length input) (LENGTH + announced input)) (λ g. (omega arith, λ k. absurd (omega arith)))
+    (λ g. (ltb-false _ _ g, λ k. omega arith)))
 
 -- a whole record is its length and its PDU
 pub length-pdu : (input : List ℕ) → 0 < wholeOf input → LENGTH + length (pduOf input) ≡ wholeOf input
@@ -36,7 +38,8 @@ drop-take (suc k) (suc n) [] = sym (take-nil (suc n - suc k))
 drop-take (suc k) (suc n) (x ∷ l) = let e : suc n - suc k ≡ n - k = omega arith in rw e (drop-take k n l)
 
 -- a PDU that is lent from the bytes
-pub pdu-lent : (input : List ℕ) (at n : ℕ) → n ≡ wholeOf (drop at input) → take (at + n - (at + LENGTH)) (drop (at + LENGTH) input) ≡ pduOf (drop at input)
+pub pdu-lent : (input : List ℕ) (at n : ℕ) → n ≡ wholeOf (drop at input)
+    → take (at + n - (at + LENGTH)) (drop (at + LENGTH) input) ≡ pduOf (drop at input)
 unfolding pduOf
 pdu-lent input at n h =
     let e : at + n - (at + LENGTH) ≡ n - LENGTH = omega arith in
@@ -49,7 +52,8 @@ unfolding pdusIn
 none-in zero input h = refl
 none-in (suc k) input h = simp eq-eqb
 
-one-more : (k : ℕ) (input : List ℕ) → 0 < wholeOf input → pdusIn (suc k) input ≡ pduOf input ∷ pdusIn k (drop (wholeOf input) input)
+one-more : (k : ℕ) (input : List ℕ) → 0 < wholeOf input
+    → pdusIn (suc k) input ≡ pduOf input ∷ pdusIn k (drop (wholeOf input) input)
 unfolding pdusIn
 one-more k input h = rw (ne-eqb (wholeOf input) 0 (λ e. omega arith))
 
@@ -63,7 +67,12 @@ pdus-any (suc k) zero input h g =
     none-in (suc k) input none ∙ sym (none-in zero input none)
 pdus-any (suc k) (suc m) input h g =
     ⊎-elim
-    (λ (some : 0 < wholeOf input). rw (one-more k input some, one-more m input some, pdus-any k m (drop (wholeOf input) input) (rw length-drop (omega arith)) (rw length-drop (omega arith))))
+    (λ (some : 0 < wholeOf input).
+    rw (
+      one-more k input some,
+      one-more m input some,
+      pdus-any k m (drop (wholeOf input) input) (rw length-drop (omega arith)) (rw length-drop (omega arith)),
+    ))
     (λ (none : wholeOf input ≤ 0). none-in (suc k) input (omega arith) ∙ sym (none-in (suc m) input (omega arith)))
     (lt-or-le 0 (wholeOf input))
 
@@ -87,16 +96,21 @@ announced-more : (input more : List ℕ) → LENGTH ≤ length input → announc
 unfolding announced
 announced-more input more h = rw (take-append-le LENGTH input more h)
 
-whole-is : (input : List ℕ) → 0 < wholeOf input → (LENGTH + announced input ≤ length input) × (wholeOf input ≡ LENGTH + announced input)
+whole-is : (input : List ℕ) → 0 < wholeOf input
+    → (LENGTH + announced input ≤ length input) × (wholeOf input ≡ LENGTH + announced input)
 unfolding wholeOf
 whole-is input =
     let Is : ℕ → Type 0 = λ n. 0 < n → (LENGTH + announced input ≤ length input) × (n ≡ LENGTH + announced input) in
     choice Is (ltb (length input) LENGTH) (λ h k. absurd (omega arith))
-    (λ h. choice Is (ltb (length input) (LENGTH + announced input)) (λ g k. absurd (omega arith)) (λ g k. (ltb-false _ _ g, refl)))
+    (λ h. choice Is (ltb (length input) (LENGTH + announced input)) (λ g k. absurd (omega arith))
+    (λ g k. (ltb-false _ _ g, refl)))
 
 whole-there : (input : List ℕ) → LENGTH + announced input ≤ length input → wholeOf input ≡ LENGTH + announced input
 unfolding wholeOf
-whole-there input h = rw (le-ltb (length input) LENGTH (omega arith), le-ltb (length input) (LENGTH + announced input) h)
+whole-there input h = rw (
+  le-ltb (length input) LENGTH (omega arith),
+  le-ltb (length input) (LENGTH + announced input) h,
+)
 
 -- more bytes behind a whole record leave it as it is
 pub whole-more : (input more : List ℕ) → 0 < wholeOf input → wholeOf (input ++ more) ≡ wholeOf input
@@ -108,4 +122,7 @@ whole-more input more some =
 
 pub pdu-more : (input more : List ℕ) → 0 < wholeOf input → pduOf (input ++ more) ≡ pduOf input
 unfolding pduOf
-pdu-more input more some = rw (whole-more input more some, take-append-le (wholeOf input) input more (whole-fits input .0))
+pdu-more input more some = rw (
+  whole-more input more some,
+  take-append-le (wholeOf input) input more (whole-fits input .0),
+)

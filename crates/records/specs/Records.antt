@@ -10,6 +10,10 @@ use Rattle.numbers.specs.Numbers.{valueOf}
 abbrev pub LENGTH : ℕ
 LENGTH = 2
 
+-- the most bytes that a record has: its length, and as many as two bytes can announce
+abbrev pub RECORD-MAX : ℕ
+RECORD-MAX = LENGTH + 65535
+
 -- the length that a record announces
 unfoldable pub announced : List ℕ → ℕ
 announced input = valueOf (take LENGTH input)

@@ -14,11 +14,11 @@ use Rattle.channel.specs.Channel.{View, Shut, Open, blank}
 use Rattle.table.specs.Table.{emptyTable, numberPlace, freePlace, recordAt, withRecord}
 use Rattle.table.proofs.Records.{at-any}
 use Rattle.table.proofs.Twice.{holds-says}
-use Rattle.client.specs.State.{State, view, roomIn, wrote, save}
+use Rattle.connection.specs.States.{State, view, roomIn, wrote, save, Steady}
 use Rattle.client.specs.Events.{Event, Unreadable, Capabilities, Of}
 use Rattle.client.specs.Client.{stepped}
-use Rattle.steps.specs.States.{Steady, FreeRecordsAreBlank, FineEvent, ruled}
-use Rattle.steps.proofs.Frame.{Fits, room-for, there-is}
+use Rattle.steps.specs.States.{FreeRecordsAreBlank, FineEvent, ruled}
+use Rattle.connection.proofs.Frame.{Fits, room-for, there-is}
 use Rattle.steps.proofs.Channels.{ruled-fits, step-state, step-caps}
 
 -- Start's records

@@ -16,8 +16,7 @@ use Rattle.store.proofs.Parts.{zeros-part}
 use Rattle.reading.specs.Reading.{readPdu}
 use Rattle.reading.specs.Said.{bytesAt}
 use Rattle.reading.specs.declared.Pdu.{Pdu}
-use Rattle.reading.specs.declared.Pdu.the-variants.{CreateRequest, CreateResponse, DataFirst, Data, Close, CapsRequest, CapsResponse,
-    Refused}
+use Rattle.reading.specs.declared.Pdu.the-variants.{CreateRequest, CreateResponse, DataFirst, Data, Close, CapsRequest, CapsResponse, Refused}
 use Rattle.reading.proofs.Placed.{Placed, placed}
 use Rattle.listeners.specs.Listeners.{goodList}
 use Rattle.channel.specs.Channel.{LocalClose}
@@ -25,12 +24,12 @@ use Rattle.table.specs.declared.Table.{Table}
 use Rattle.table.specs.Table.{emptyTable, recordAt}
 use Rattle.table.specs.Sound.{soundTable}
 use Rattle.table.proofs.Soundness.{sound-empty, sound-ready}
-use Rattle.client.specs.State.{State, stateOf}
-use Rattle.client.specs.Events.{Event, Unreadable, Capabilities, Of, createAct, eventOf, eventFor, actFor, carriedBy}
+use Rattle.connection.specs.States.{State, stateOf, Steady, FreePartsAreZero, FineAct}
+use Rattle.client.specs.Events.{Event, Unreadable, Capabilities, Of, createAct, eventOf}
 use Rattle.client.specs.Client.{readied, stepped, badCall, wholeOf, guarded, received, locallyClosed}
 use Rattle.client.proofs.Steps.{too-early, made-ready}
 use Rattle.client.proofs.Calls.{proper, refuses, passes}
-use Rattle.steps.specs.States.{Steady, FreePartsAreZero, FreeRecordsAreBlank, Sane, Calm, FineAct, FineEvent}
+use Rattle.steps.specs.States.{FreeRecordsAreBlank, Sane, Calm, FineEvent}
 use Rattle.steps.proofs.Channels.{step-steady, step-clear}
 use Rattle.steps.proofs.Blank.{blank-start, step-blank}
 
@@ -96,7 +95,7 @@ unfolding createAct
 fine-create list name pri h = choice FineAct (goodList list) (λ e. h) (λ e. tt)
 
 fine-read : (list pdu : List ℕ) (p : Pdu) → Placed pdu p → FineEvent (eventOf list pdu p)
-unfolding eventOf eventFor actFor carriedBy
+unfolding eventOf
 fine-read list pdu (CreateRequest n class name) h = fine-create list (bytesAt pdu name) class (h .1)
 fine-read list pdu (CreateResponse n status) h = tt
 fine-read list pdu (DataFirst n len block) h = tt

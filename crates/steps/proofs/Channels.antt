@@ -8,13 +8,13 @@ use lib.Dec.{eqb}
 use borrow.Author.Tests.{eqb-false}
 use Rattle.paper.specs.declared.Refusal.{Refusal}
 use Rattle.channel.specs.Channel.{Act, Did, act}
-use Rattle.client.specs.State.{State, view, roomIn, save}
-use Rattle.client.specs.Events.{Event, Unreadable, Capabilities, Of}
+use Rattle.connection.specs.States.{State, view, roomIn, save, Steady, FreePartsAreZero, FineAct}
+use Rattle.client.specs.Events.{Event, Unreadable, Capabilities, Of, isOf}
 use Rattle.client.specs.Client.{Stepped, finished, stepped}
 use Rattle.client.proofs.Steps.{in-time, too-late}
-use Rattle.steps.proofs.Frame.{Fits, save-own, save-other, save-steady, save-clear}
-use Rattle.steps.specs.States.{Steady, FreePartsAreZero, FineEvent, FineAct, ruled, isOf}
-use Rattle.steps.proofs.Acts.{act-fits, view-known}
+use Rattle.connection.proofs.Frame.{Fits, save-own, save-other, save-steady, save-clear}
+use Rattle.steps.specs.States.{FineEvent, ruled}
+use Rattle.connection.proofs.Acts.{act-fits, view-known}
 
 module _ (st : State) (g : Steady st) where
   pub ruled-fits : (n : ℕ) (a : Act) → FineAct a → Fits n (roomIn st) (view n st) (ruled n st a .view)

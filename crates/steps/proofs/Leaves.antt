@@ -13,14 +13,12 @@ use lib.ListN.{length}
 use Rattle.paper.specs.Sizes.{PARTS, STORE, MESSAGE-MAX}
 use Rattle.paper.specs.Refusals.{refusalNumber}
 use Rattle.paper.specs.declared.Refusal.{Refusal}
-use Rattle.paper.specs.declared.Refusal.the-variants.{WrongSize, CutShort, TooLong, NoCommand, BadField, BadList, WrongTime, NotOpen,
-    AlreadyOpen, StillJoining, OverLimit, PastLength, IsSpoiled, NoStart}
+use Rattle.paper.specs.declared.Refusal.the-variants.{BadCall, CutShort, TooLong, NoCommand, BadField, BadList, WrongTime, NotOpen, AlreadyOpen, StillJoining, OverLimit, PastLength, IsSpoiled, NoStart}
 use Rattle.lists.specs.Bytes.{laid, zeros}
 use Rattle.lists.proofs.Cases.{choice, true-not-false}
 use Rattle.reading.specs.Reading.{readPdu}
 use Rattle.reading.specs.declared.Pdu.{Pdu}
-use Rattle.reading.specs.declared.Pdu.the-variants.{CreateRequest, CreateResponse, DataFirst, Data, Close, CapsRequest, CapsResponse,
-    Refused as NotRead}
+use Rattle.reading.specs.declared.Pdu.the-variants.{CreateRequest, CreateResponse, DataFirst, Data, Close, CapsRequest, CapsResponse, Refused as NotRead}
 use Rattle.reading.proofs.Placed.{ReadingRefusal, Placed, placed}
 use Rattle.channel.specs.declared.Stage.{Stage}
 use Rattle.channel.specs.declared.Stage.the-variants.{Idle, Joining, Spoiled}
@@ -33,20 +31,18 @@ use Rattle.channel.specs.declared.Answer.the-variants.{Refused}
 use Rattle.channel.specs.declared.Took.{Took}
 use Rattle.channel.specs.declared.Took.the-variants.{Bars, Spoils, Holds, Finishes}
 use Rattle.channel.specs.Stages.{added, begun, took}
-use Rattle.channel.specs.Channel.{Act, BadCreate, Create, Bring, Closing, LocalClose, View, Shut, Open, Room, NoRoom, Spare, restaged,
-    opening, stageAfter, partAfter, answerTo, landed, act}
+use Rattle.channel.specs.Channel.{Act, BadCreate, Create, Bring, Closing, LocalClose, View, Shut, Open, Room, NoRoom, Spare, restaged, opening, stageAfter, partAfter, answerTo, landed, act}
 use Rattle.table.specs.declared.Table.{Table}
 use Rattle.table.specs.Table.{emptyTable, numberPlace, recordAt, withRecord}
 use Rattle.table.specs.Sound.{soundTable}
-use Rattle.client.specs.State.{State, stateOf, view, roomIn, wrote, save}
-use Rattle.client.specs.Events.{Event, Unreadable, Capabilities, Of, eventOf, eventFor, actFor, carriedBy}
-use Rattle.client.specs.Client.{Stepped, refused, finished, readied, stepped, badCall, Whole, wholeOf, guarded, received, locallyClosed,
-    started, storeStarted}
+use Rattle.connection.specs.States.{State, stateOf, view, roomIn, wrote, save, Steady}
+use Rattle.client.specs.Events.{Event, Unreadable, Capabilities, Of, eventOf}
+use Rattle.client.specs.Client.{Stepped, refused, finished, readied, stepped, badCall, Whole, wholeOf, guarded, received, locallyClosed, started, storeStarted}
 use Rattle.client.proofs.Calls.{proper, refuses, passes}
-use Rattle.client.proofs.Steps.{own-part, save-own, too-early, in-time, too-late, made-ready}
-use Rattle.steps.specs.States.{Steady}
+use Rattle.connection.proofs.Views.{own-part, save-own}
+use Rattle.client.proofs.Steps.{too-early, in-time, too-late, made-ready}
 use Rattle.steps.specs.Refused.{spoils, concerned, leftBy, IsOpen, RefusedCall}
-use Rattle.steps.proofs.Frame.{opened}
+use Rattle.connection.proofs.Frame.{opened}
 
 -- ---- what data comes to: only the three spoil, they always do, and each concerns the channel
 
@@ -184,7 +180,7 @@ time-kept = refl
 -- a reading refusal doesn't spoil
 reading-keeps : (why : Refusal) → ReadingRefusal why → spoils why ≡ false
 unfolding spoils
-reading-keeps WrongSize h = refl
+reading-keeps BadCall h = refl
 reading-keeps CutShort h = refl
 reading-keeps TooLong h = refl
 reading-keeps NoCommand h = refl
@@ -256,19 +252,19 @@ whole-answer : {w : Whole} (reply : List ℕ) (s : Stepped) → w ≡ wholeOf re
 unfolding wholeOf
 whole-answer reply s e = rw e
 
-size-left : (e : Event) (t : Table) → leftBy WrongSize e t ≡ t
+size-left : (e : Event) (t : Table) → leftBy BadCall e t ≡ t
 unfolding leftBy spoils
 size-left (Unreadable w) t = refl
 size-left (Capabilities version) t = refl
 size-left (Of n a) t = refl
 
-size-concern : (e : Event) → NoChannel ≡ concerned WrongSize e
+size-concern : (e : Event) → NoChannel ≡ concerned BadCall e
 unfolding concerned
 size-concern (Unreadable w) = refl
 size-concern (Capabilities version) = refl
 size-concern (Of n a) = refl
 
-size-kept : spoils WrongSize ≡ false
+size-kept : spoils BadCall ≡ false
 unfolding spoils
 size-kept = refl
 
@@ -283,14 +279,14 @@ guarded-refusing t store reply e rows mild why concern h = go (badCall t (length
         → RefusedCall t store reply e (guarded t store reply (stepped (stateOf t store) e)) why concern
     go true b =
         let r = refuses t store reply (stepped (stateOf t store) e) b in
-        rw r (whole-refusing t store reply e (refused (stateOf t store) WrongSize) why concern (refused-here (stateOf t store) e WrongSize why concern size-kept (size-concern e) (size-left e t) (whole-answer reply (refused (stateOf t store) WrongSize) r ∙ h)))
+        rw r (whole-refusing t store reply e (refused (stateOf t store) BadCall) why concern (refused-here (stateOf t store) e BadCall why concern size-kept (size-concern e) (size-left e t) (whole-answer reply (refused (stateOf t store) BadCall) r ∙ h)))
     go false b =
         let r = passes t store reply (stepped (stateOf t store) e) b in
         let p = proper t (length store) (length reply) b in
         rw r (whole-refusing t store reply e (stepped (stateOf t store) e) why concern (step-refusing (stateOf t store) rows (p .store-size) (p .sound) why concern e mild (whole-answer reply (stepped (stateOf t store) e) r ∙ h)))
 
 mild-read : (list pdu : List ℕ) (p : Pdu) → Placed pdu p → Mild (eventOf list pdu p)
-unfolding eventOf eventFor actFor carriedBy spoils
+unfolding eventOf spoils
 mild-read list pdu (CreateRequest n class name) h = tt
 mild-read list pdu (CreateResponse n status) h = refl
 mild-read list pdu (DataFirst n len block) h = tt

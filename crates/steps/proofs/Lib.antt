@@ -1,5 +1,3 @@
-pub mod Frame
-pub mod Acts
 pub mod Channels
 pub mod Blank
 pub mod Calm

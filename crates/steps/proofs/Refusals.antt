@@ -11,15 +11,13 @@ use lib.Dec.{ltb, eqb}
 use lib.ListN.{length, length-take, length-drop}
 use Rattle.paper.specs.Sizes.{PARTS, STORE, MESSAGE-MAX}
 use Rattle.paper.specs.declared.Refusal.{Refusal}
-use Rattle.paper.specs.declared.Refusal.the-variants.{WrongSize, BadList, WrongTime, NotOpen, AlreadyOpen, StillJoining, OverLimit,
-    PastLength, IsSpoiled}
+use Rattle.paper.specs.declared.Refusal.the-variants.{BadCall, BadList, WrongTime, NotOpen, AlreadyOpen, StillJoining, OverLimit, PastLength, IsSpoiled}
 use Rattle.lists.proofs.Cases.{choice, each}
 use Rattle.reading.specs.Reading.{readPdu}
 use Rattle.reading.specs.Said.{bytesAt}
 use Rattle.reading.specs.declared.Place.{Place}
 use Rattle.reading.specs.declared.Pdu.{Pdu}
-use Rattle.reading.specs.declared.Pdu.the-variants.{CreateRequest, CreateResponse, DataFirst, Data, Close, CapsRequest, CapsResponse,
-    Refused}
+use Rattle.reading.specs.declared.Pdu.the-variants.{CreateRequest, CreateResponse, DataFirst, Data, Close, CapsRequest, CapsResponse, Refused}
 use Rattle.reading.specs.Layouts.{verdictOn, readingRows}
 use Rattle.reading.proofs.Placed.{Placed, placed}
 use Rattle.reading.proofs.Layouts.{reading-refusals}
@@ -37,22 +35,19 @@ use Rattle.paper.proofs.Rows.{held-before, held-behind}
 use Rattle.channel.specs.declared.Took.{Took}
 use Rattle.channel.specs.declared.Took.the-variants.{Bars, Spoils, Holds, Finishes}
 use Rattle.channel.specs.Stages.{added, begun, took}
-use Rattle.channel.specs.Channel.{Act, BadCreate, Create, Bring, Closing, LocalClose, View, Shut, Open, Room, NoRoom, Spare, opening,
-    answerTo, landed, act}
+use Rattle.channel.specs.Channel.{Act, BadCreate, Create, Bring, Closing, LocalClose, View, Shut, Open, Room, NoRoom, Spare, opening, answerTo, landed, act}
 use Rattle.table.specs.declared.Table.{Table}
 use Rattle.table.specs.Table.{numberPlace, recordAt}
 use Rattle.table.specs.Sound.{goodStage, soundTable}
 use Rattle.table.proofs.Soundness.{sound-says, joining-bounds}
-use Rattle.client.specs.State.{State, stateOf, viewAt, view, roomIn}
+use Rattle.connection.specs.States.{State, stateOf, viewAt, view, roomIn}
 use Rattle.store.specs.Parts.{part}
-use Rattle.client.specs.Events.{Unreadable, Capabilities, Of, createAct, eventOf, eventFor, actFor, carriedBy}
-use Rattle.client.specs.Client.{Stepped, refused, finished, acted, readied, stepped, badCall, Whole, wholeOf, guarded, received,
-    locallyClosed, started}
+use Rattle.client.specs.Events.{Unreadable, Capabilities, Of, createAct, eventOf}
+use Rattle.client.specs.Client.{Stepped, refused, finished, acted, readied, stepped, badCall, Whole, wholeOf, guarded, received, locallyClosed, started}
 use Rattle.client.specs.declared.Begun.the-variants.{Done, Refused as NotBegun}
 use Rattle.client.proofs.Steps.{too-late, made-ready}
 use Rattle.client.proofs.Calls.{proper, refuses, passes as passes-by}
-use Rattle.steps.specs.Rows.{verdictOf, outcomeOf, isOpen, stageOf, isSpoiled, isJoining, passes, firstRows, dataRows, rowsOf,
-    receiveRows, closeRows, startRows, startOutcome}
+use Rattle.steps.specs.Rows.{verdictOf, outcomeOf, isOpen, stageOf, isSpoiled, isJoining, passes, firstRows, dataRows, rowsOf, receiveRows, closeRows, startRows, startOutcome}
 
 -- a step's verdict
 abbrev verdict : Stepped → Verdict
@@ -222,7 +217,7 @@ module _ (t : Table) (store list pdu : List ℕ) (sound : soundTable t ≡ true)
   step-verdict :
       (p : Pdu) → Placed pdu p → verdictOn p ≡ fine
       → verdict (stepped (stateOf t store) (eventOf list pdu p)) ≡ firstHeld (rowsOf t list p)
-  unfolding eventOf eventFor actFor carriedBy rowsOf firstHeld
+  unfolding eventOf rowsOf firstHeld
   step-verdict (CapsRequest version charges) h f = caps-says version (t .ready) refl
   step-verdict (CreateRequest n class name) h f =
       of-verdict (stateOf t store) n (createAct list (bytesAt pdu name) class)
@@ -244,7 +239,7 @@ module _ (t : Table) (store list pdu : List ℕ) (sound : soundTable t ≡ true)
   unread-verdict :
       (p : Pdu) (why : Refusal) → verdictOn p ≡ refusedWith why
       → verdict (stepped (stateOf t store) (eventOf list pdu p)) ≡ refusedWith why
-  unfolding eventOf eventFor carriedBy
+  unfolding eventOf
   unread-verdict (CapsRequest version charges) why f = let z : _≡_ {A = ℕ} 0 1 = cc in absurd (omega arith)
   unread-verdict (CreateRequest n class name) why f = let z : _≡_ {A = ℕ} 0 1 = cc in absurd (omega arith)
   unread-verdict (DataFirst n len block) why f = let z : _≡_ {A = ℕ} 0 1 = cc in absurd (omega arith)
@@ -280,14 +275,14 @@ whole-verdict reply s e = rw e
 -- refusal 1 in front, in the rows as in the call
 guarded-verdict :
     (t : Table) (store reply : List ℕ) (s : Stepped) (rows : List Row) → (soundTable t ≡ true → verdict s ≡ firstHeld rows)
-    → verdictOf (guarded t store reply s .result .answer) ≡ firstHeld (row WrongSize (badCall t (length store) (length reply)) ∷ rows)
+    → verdictOf (guarded t store reply s .result .answer) ≡ firstHeld (row BadCall (badCall t (length store) (length reply)) ∷ rows)
 unfolding firstHeld
 guarded-verdict t store reply s rows f = go (badCall t (length store) (length reply)) refl
   where
     go :
         (b : Bool) → badCall t (length store) (length reply) ≡ b
-        → verdictOf (guarded t store reply s .result .answer) ≡ cond b (refusedWith WrongSize) (firstHeld rows)
-    go true e = whole-verdict reply (refused (stateOf t store) WrongSize) (refuses t store reply s e) ∙ refuses-so WrongSize NoChannel
+        → verdictOf (guarded t store reply s .result .answer) ≡ cond b (refusedWith BadCall) (firstHeld rows)
+    go true e = whole-verdict reply (refused (stateOf t store) BadCall) (refuses t store reply s e) ∙ refuses-so BadCall NoChannel
     go false e = whole-verdict reply s (passes-by t store reply s e) ∙ f (proper t (length store) (length reply) e .sound)
 
 -- receive refuses with the first row that holds, and with none if none does
@@ -342,6 +337,6 @@ pub start-refusals : (store : List ℕ) → startOutcome (started store .begun) 
 unfolding started startOutcome comesTo startRows firstHeld
 start-refusals store = go (eqb (length store) STORE)
   where
-    go : (a : Bool) → startOutcome (cond a Done (NotBegun WrongSize)) ≡ comesTo tt (cond (not a) (refusedWith WrongSize) fine)
+    go : (a : Bool) → startOutcome (cond a Done (NotBegun BadCall)) ≡ comesTo tt (cond (not a) (refusedWith BadCall) fine)
     go true = refl
     go false = refl

@@ -16,20 +16,19 @@ use Rattle.reading.specs.Said.{bytesAt}
 use Rattle.reading.proofs.Placed.{Placed}
 use Rattle.listeners.specs.Listeners.{goodList}
 use Rattle.reading.specs.declared.Pdu.{Pdu}
-use Rattle.reading.specs.declared.Pdu.the-variants.{CreateRequest, CreateResponse, DataFirst, Data, Close, CapsRequest, CapsResponse,
-    Refused}
+use Rattle.reading.specs.declared.Pdu.the-variants.{CreateRequest, CreateResponse, DataFirst, Data, Close, CapsRequest, CapsResponse, Refused}
 use Rattle.channel.specs.declared.Record.{Record}
 use Rattle.channel.specs.Channel.{blank, Act, View, Shut, Open, Room, act}
 use Rattle.table.specs.Table.{numberPlace, freePlace, recordAt}
 use Rattle.table.proofs.Records.{at-same}
 use Rattle.store.specs.Parts.{part, withPart}
 use Rattle.store.proofs.Parts.{there, inside, part-same, part-other}
-use Rattle.client.specs.State.{State, view, roomIn, wrote, save}
-use Rattle.client.specs.Events.{Of, createAct, eventOf, eventFor, actFor, carriedBy, closeAct}
+use Rattle.connection.specs.States.{State, view, roomIn, wrote, save, Steady, FineAct}
+use Rattle.client.specs.Events.{Of, createAct, eventOf, closeAct}
 use Rattle.client.specs.Client.{stepped}
-use Rattle.client.proofs.Steps.{own-part}
-use Rattle.steps.proofs.Frame.{Fits, room-for, kept-long, there-is}
-use Rattle.steps.specs.States.{Steady, FineAct, ruled}
+use Rattle.connection.proofs.Views.{own-part}
+use Rattle.connection.proofs.Frame.{Fits, room-for, kept-long, there-is}
+use Rattle.steps.specs.States.{ruled}
 use Rattle.steps.proofs.Channels.{ruled-fits, step-state, step-own, step-other}
 use Rattle.steps.proofs.Calm.{fine-create}
 
@@ -107,7 +106,7 @@ create-open st g m n list name pri z r b h = go (eqb n m) refl
 pub two-lists :
     (st : State) (g : Steady st) (one two pdu : List ℕ) (p : Pdu) → Placed pdu p → (m : ℕ) (r : Record) (b : List ℕ)
     → view m st ≡ Open r b → view m (stepped st (eventOf one pdu p) .state) ≡ view m (stepped st (eventOf two pdu p) .state)
-unfolding eventOf eventFor actFor carriedBy
+unfolding eventOf
 two-lists st g one two pdu (CreateRequest n class name) z m r b h = create-open st g m n one (bytesAt pdu name) class (z .1) r b h ∙ sym (create-open st g m n two (bytesAt pdu name) class (z .1) r b h)
 two-lists st g one two pdu (CreateResponse n status) z m r b h = refl
 two-lists st g one two pdu (DataFirst n len block) z m r b h = refl

@@ -9,17 +9,15 @@ use lib.ListN.{length}
 use Rattle.paper.specs.Sizes.{PDU-MAX}
 use Rattle.paper.specs.declared.Refusal.the-variants.{WrongTime}
 use Rattle.reading.specs.Reading.{readPdu}
-use Rattle.reading.specs.Grammar.{Value, create-request, create-response, data-first, data-block, close, capabilities-request,
-    capabilities-response, Read, values, refusal, meant, readAs, Encodes}
+use Rattle.reading.specs.Grammar.{Value, create-request, create-response, data-first, data-block, close, capabilities-request, capabilities-response, Read, values, refusal, meant, readAs, Encodes}
 use Rattle.reading.specs.declared.Pdu.{Pdu}
-use Rattle.reading.specs.declared.Pdu.the-variants.{CreateRequest, CreateResponse, DataFirst, Data, Close, CapsRequest, CapsResponse,
-    Refused}
+use Rattle.reading.specs.declared.Pdu.the-variants.{CreateRequest, CreateResponse, DataFirst, Data, Close, CapsRequest, CapsResponse, Refused}
 use Rattle.reading.proofs.Grammar.{every-encoding}
 use Rattle.channel.specs.declared.Offer.the-variants.{First, More}
 use Rattle.channel.specs.Channel.{Bring, Closing}
 use Rattle.table.specs.declared.Table.{Table}
-use Rattle.client.specs.State.{stateOf}
-use Rattle.client.specs.Events.{Event, Unreadable, Capabilities, Of, createAct, eventOf, eventFor, actFor, carriedBy}
+use Rattle.connection.specs.States.{stateOf}
+use Rattle.client.specs.Events.{Event, Unreadable, Capabilities, Of, createAct, eventOf}
 use Rattle.client.specs.Client.{stepped, guarded, received}
 
 -- the event is a function of the values alone
@@ -34,7 +32,7 @@ eventOfRead list (values (capabilities-response version)) = Unreadable WrongTime
 eventOfRead list (refusal why) = Unreadable why
 
 event-is : (list pdu : List ℕ) (p : Pdu) → eventOf list pdu p ≡ eventOfRead list (meant pdu p)
-unfolding eventOf eventFor actFor carriedBy eventOfRead
+unfolding eventOf eventOfRead
 event-is list pdu (CreateRequest n class name) = refl
 event-is list pdu (CreateResponse n status) = refl
 event-is list pdu (DataFirst n len block) = refl

@@ -9,19 +9,16 @@ use lib.ListN.{length}
 use Rattle.paper.specs.Sizes.{PARTS, STORE, MESSAGE-MAX}
 use Rattle.paper.specs.Refusals.{refusalNumber}
 use Rattle.paper.specs.Rows.{Verdict, fine, refusedWith, Row, row, Outcome, done, refusal}
-use Rattle.paper.specs.declared.Refusal.the-variants.{WrongSize, BadList, WrongTime, NotOpen, AlreadyOpen,
-    StillJoining, OverLimit, PastLength, IsSpoiled}
+use Rattle.paper.specs.declared.Refusal.the-variants.{BadCall, BadList, WrongTime, NotOpen, AlreadyOpen, StillJoining, OverLimit, PastLength, IsSpoiled}
 use Rattle.reading.specs.Reading.{readPdu}
 use Rattle.reading.specs.Layouts.{readingRows}
 use Rattle.reading.specs.declared.Pdu.{Pdu}
-use Rattle.reading.specs.declared.Pdu.the-variants.{CreateRequest, CreateResponse, DataFirst, Data, Close,
-    CapsRequest, CapsResponse, Refused}
+use Rattle.reading.specs.declared.Pdu.the-variants.{CreateRequest, CreateResponse, DataFirst, Data, Close, CapsRequest, CapsResponse, Refused}
 use Rattle.listeners.specs.Listeners.{goodList}
 use Rattle.channel.specs.declared.Stage.{Stage}
 use Rattle.channel.specs.declared.Stage.the-variants.{Idle, Joining, Spoiled}
 use Rattle.channel.specs.declared.Answer.{Answer}
-use Rattle.channel.specs.declared.Answer.the-variants.{Ready, Opened, Declined, Held, Message, Closed, Ignored,
-    Refused as Refuses}
+use Rattle.channel.specs.declared.Answer.the-variants.{Ready, Opened, Declined, Held, Message, Closed, Ignored, Refused as Refuses}
 use Rattle.table.specs.declared.Table.{Table}
 use Rattle.table.specs.Table.{numberPlace, recordAt}
 use Rattle.client.specs.declared.Begun.{Begun}
@@ -105,17 +102,17 @@ rowsOf t list (Refused why) = []
 -- on receive: 1, then reading, then the rows of the kind
 unfoldable pub receiveRows : Table → List ℕ → List ℕ → List ℕ → List ℕ → List Row
 receiveRows t store list pdu reply =
-    row WrongSize (badCall t (length store) (length reply)) ∷ (readingRows true pdu ++ rowsOf t list (readPdu true pdu))
+    row BadCall (badCall t (length store) (length reply)) ∷ (readingRows true pdu ++ rowsOf t list (readPdu true pdu))
 
 -- "Local close: 1, 7, 8."
 unfoldable pub closeRows : Table → List ℕ → ℕ → List ℕ → List Row
 closeRows t store n reply =
-    row WrongSize (badCall t (length store) (length reply))
+    row BadCall (badCall t (length store) (length reply))
     ∷ row WrongTime (not (t .ready)) ∷ row NotOpen (not (isOpen t n)) ∷ []
 
 -- Start: 1
 unfoldable pub startRows : List ℕ → List Row
-startRows store = row WrongSize (not (eqb (length store) STORE)) ∷ []
+startRows store = row BadCall (not (eqb (length store) STORE)) ∷ []
 
 -- Start's answer in the paper's terms
 unfoldable pub startOutcome : Begun → Outcome (Unit {0})

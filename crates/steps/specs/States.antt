@@ -1,17 +1,14 @@
 -- What the statements on steps suppose and say: a state that is in order, an event as reading makes it, and what
 -- the rules of one channel say of it.
 use mathlib.Core.Path.{_≡_}
-use mathlib.Core.Bool.{Bool, true, false}
+use mathlib.Core.Bool.{true, false}
 use Prim.Native.Nat.{ℕ, _≤_, _<_}
-use lib.Dec.{eqb}
 use lib.ListN.{length}
-use Rattle.paper.specs.Sizes.{PARTS, PART, STORE}
-use Rattle.lists.specs.Bytes.{zeros}
-use Rattle.channel.specs.Channel.{Act, BadCreate, Create, Bring, Closing, LocalClose, Did, blank, act}
+use Rattle.paper.specs.Sizes.{PARTS, STORE}
+use Rattle.channel.specs.Channel.{Act, Did, blank, act}
 use Rattle.table.specs.Table.{recordAt}
 use Rattle.table.specs.Sound.{soundTable}
-use Rattle.store.specs.Parts.{part}
-use Rattle.client.specs.State.{State, view, roomIn}
+use Rattle.connection.specs.States.{State, view, roomIn, FreePartsAreZero, FineAct}
 use Rattle.client.specs.Events.{Event, Unreadable, Capabilities, Of}
 
 -- ---- states
@@ -21,17 +18,6 @@ pub record Sane (st : State) : Type 0 where
   pub rows : length (st .table .records) ≡ PARTS
   pub bytes : length (st .store) ≡ STORE
   pub sound : soundTable (st .table) ≡ true
-
--- the same, and ready
-pub record Steady (st : State) : Type 0 where
-  pub rows : length (st .table .records) ≡ PARTS
-  pub bytes : length (st .store) ≡ STORE
-  pub sound : soundTable (st .table) ≡ true
-  pub ready : st .table .ready ≡ true
-
--- "the parts of free records are zero"
-abbrev pub FreePartsAreZero : State → Type 0
-FreePartsAreZero st = (k : ℕ) → k < PARTS → recordAt (st .table) k .taken ≡ false → part (st .store) k ≡ zeros PART
 
 -- "A freed record is as Start made it."
 abbrev pub FreeRecordsAreBlank : State → Type 0
@@ -45,23 +31,10 @@ pub record Calm (st : State) : Type 0 where
 
 -- ---- events, as reading makes them: a class of two bits, a version from 1 on
 
-abbrev pub FineAct : Act → Type 0
-FineAct BadCreate = Unit {0}
-FineAct (Create listed pri) = pri ≤ 3
-FineAct (Bring offer bytes) = Unit {0}
-FineAct Closing = Unit {0}
-FineAct LocalClose = Unit {0}
-
 abbrev pub FineEvent : Event → Type 0
 FineEvent (Unreadable why) = Unit {0}
 FineEvent (Capabilities version) = 1 ≤ version
 FineEvent (Of n a) = FineAct a
-
--- whether an event is of the channel with number n
-abbrev pub isOf : ℕ → Event → Bool
-isOf n (Unreadable why) = false
-isOf n (Capabilities version) = false
-isOf n (Of m a) = eqb m n
 
 -- ---- what the rules of one channel say of an event of the channel with number n
 

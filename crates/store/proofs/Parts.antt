@@ -42,12 +42,14 @@ pub length-part : (store : List ℕ) (k : ℕ) → PART * k + PART ≤ length st
 unfolding part
 length-part store k h = simp (length-take, length-drop) (omega arith)
 
-with-eq : (store : List ℕ) (k : ℕ) (bytes : List ℕ) → length bytes ≡ PART → PART * k + PART ≤ length store → withPart store k bytes ≡ take (PART * k) store ++ (bytes ++ drop (PART * k + PART) store)
+with-eq : (store : List ℕ) (k : ℕ) (bytes : List ℕ) → length bytes ≡ PART → PART * k + PART ≤ length store
+    → withPart store k bytes ≡ take (PART * k) store ++ (bytes ++ drop (PART * k + PART) store)
 unfolding withPart
 with-eq store k bytes e h = rw e at (laid-eq store (PART * k) bytes (omega arith))
 
 -- the part itself is as written
-pub part-same : (store : List ℕ) (k : ℕ) (bytes : List ℕ) → length bytes ≡ PART → PART * k + PART ≤ length store → part (withPart store k bytes) k ≡ bytes
+pub part-same : (store : List ℕ) (k : ℕ) (bytes : List ℕ) → length bytes ≡ PART → PART * k + PART ≤ length store
+    → part (withPart store k bytes) k ≡ bytes
 unfolding part
 part-same store k bytes e h =
     let f : length (take (PART * k) store) ≡ PART * k = simp length-take (omega arith) in
@@ -56,9 +58,13 @@ part-same store k bytes e h =
 -- a part that lies in a list's front
 part-front : (j : ℕ) (a b : List ℕ) → PART * j + PART ≤ length a → part (a ++ b) j ≡ part a j
 unfolding part
-part-front j a b h = rw (drop-append-le (PART * j) a b (omega arith), take-append-le PART (drop (PART * j) a) b (simp length-drop (omega arith)))
+part-front j a b h = rw (
+  drop-append-le (PART * j) a b (omega arith),
+  take-append-le PART (drop (PART * j) a) b (simp length-drop (omega arith)),
+)
 
-part-before : (store rest : List ℕ) (j n : ℕ) → PART * j + PART ≤ n → n ≤ length store → part (take n store ++ rest) j ≡ part store j
+part-before : (store rest : List ℕ) (j n : ℕ) → PART * j + PART ≤ n → n ≤ length store
+    → part (take n store ++ rest) j ≡ part store j
 part-before store rest j n h l =
     let f : PART * j + PART ≤ length (take n store) = simp length-take (omega arith) in
     part-front j (take n store) rest f ∙ sym (part-front j (take n store) (drop n store) f) ∙ rw take-append-drop
@@ -70,7 +76,8 @@ part-behind a b j n h e =
     rw (← f, ← drop-drop (PART * j - n) n a, ← drop-drop (PART * j - n) n b, e)
 
 -- every other part is as it was
-pub part-other : (store : List ℕ) (k j : ℕ) (bytes : List ℕ) → j ≢ k → length bytes ≡ PART → PART * k + PART ≤ length store → part (withPart store k bytes) j ≡ part store j
+pub part-other : (store : List ℕ) (k j : ℕ) (bytes : List ℕ) → j ≢ k → length bytes ≡ PART
+    → PART * k + PART ≤ length store → part (withPart store k bytes) j ≡ part store j
 part-other store k j bytes d e h =
     ⊎-elim
     (λ (l : j < k). rw (with-eq store k bytes e h) (part-before store _ j (PART * k) (apart l) (omega arith)))
@@ -78,7 +85,9 @@ part-other store k j bytes d e h =
     (lt-or-le j k)
   where
     behind : drop (PART * k + PART) (withPart store k bytes) ≡ drop (PART * k + PART) store
-    behind = rw (with-eq store k bytes e h, ← append-assoc) (drop-at (take (PART * k) store ++ bytes) _ (PART * k + PART) (simp (length-append, length-take) (omega arith)))
+    behind = rw (with-eq store k bytes e h, ← append-assoc)
+        (drop-at (take (PART * k) store ++ bytes) _ (PART * k + PART)
+        (simp (length-append, length-take) (omega arith)))
 
 -- a part written with its own bytes
 pub with-own : (store : List ℕ) (k : ℕ) → PART * k + PART ≤ length store → withPart store k (part store k) ≡ store
@@ -94,15 +103,18 @@ zeros-part k l = mid-zeros (PART * k) PART STORE (omega (arith, apart l))
 
 -- ---- the two writes
 
-pub put-there : (store : List ℕ) (k at : ℕ) (block : List ℕ) → hasPart (length store) k ≡ true → blockPut store k at block ≡ withPart store k (laid (part store k) at block)
+pub put-there : (store : List ℕ) (k at : ℕ) (block : List ℕ) → hasPart (length store) k ≡ true
+    → blockPut store k at block ≡ withPart store k (laid (part store k) at block)
 unfolding blockPut
 put-there store k at block h = rw h
 
-pub cleared-there : (store : List ℕ) (k : ℕ) → hasPart (length store) k ≡ true → partCleared store k ≡ withPart store k (zeros PART)
+pub cleared-there : (store : List ℕ) (k : ℕ) → hasPart (length store) k ≡ true
+    → partCleared store k ≡ withPart store k (zeros PART)
 unfolding partCleared
 cleared-there store k h = rw h
 
-pub put-nowhere : (store : List ℕ) (k at : ℕ) (block : List ℕ) → hasPart (length store) k ≡ false → blockPut store k at block ≡ store
+pub put-nowhere : (store : List ℕ) (k at : ℕ) (block : List ℕ) → hasPart (length store) k ≡ false
+    → blockPut store k at block ≡ store
 unfolding blockPut
 put-nowhere store k at block h = rw h
 
@@ -116,6 +128,7 @@ pub lent : (store : List ℕ) (k : ℕ) → take (PART * k + PART - PART * k) (d
 unfolding part
 lent store k = from-to store (PART * k) PART
 
-pub come-back : (store : List ℕ) (k : ℕ) (bytes : List ℕ) → PART * k + PART ≤ length store → length bytes ≡ PART → putMid (PART * k) (PART * k + PART - PART * k) store bytes ≡ withPart store k bytes
+pub come-back : (store : List ℕ) (k : ℕ) (bytes : List ℕ) → PART * k + PART ≤ length store → length bytes ≡ PART
+    → putMid (PART * k) (PART * k + PART - PART * k) store bytes ≡ withPart store k bytes
 unfolding withPart
 come-back store k bytes h e = back store (PART * k) (PART * k + PART) bytes (omega arith) h (omega arith)

@@ -1,153 +1,97 @@
-// A walk over what a descriptor gives: bytes are read, walked through, and the lines written to standard output.
+// A walk over what a descriptor gives.
 //
-// `run` is the entry of the programs that walk. It only reads, calls the crates below and writes; no contract can say what is
-// read or written. The input may have any size and any bytes: a record may come in any pieces.
-use libc::STDOUT_FILENO;
+// `program` is the whole of a program that walks over standard input, and `run` walks over any descriptor. They only
+// read, call and write: what is written, when a read is due and when the run ends is `walking`'s to say, and no
+// contract can say what is read. A read or a write that fails is said on standard error, and ends the run.
+use files::Filled;
+use libc::STDERR_FILENO;
+use libc::STDIN_FILENO;
 use paper::STORE;
-use walking::Kept;
+use records::Due;
+use records::RECORD_MAX;
+use walking::Job;
 ghost use Prim.Native.Nat.{_≤_};
 ghost use mathlib.Core.Path.{_≡_};
-ghost use lib.ListN.{length};
-ghost use Rattle.lists.specs.Bytes.{laid};
-ghost use Rattle.lines.specs.Lines.{LINE-MAX, headerLine, cutLineOf};
+ghost use lib.ListN.{length, take};
+ghost use Rattle.files.specs.Files.{Fills};
+ghost use Rattle.records.specs.Records.{RECORD-MAX};
+ghost use Rattle.walking.specs.Walking.{roomFor};
 
-// The bytes of the input buffer: room for two records of the greatest length that two bytes announce.
-const INPUT: usize = 131072;
+// The bytes of the input buffer: room for two records of the greatest length.
+const INPUT: usize = 2 * RECORD_MAX;
 
-// The bytes of the output buffer.
+// The bytes of the output buffer: room for every text, and for many short ones.
 const OUTPUT: usize = 65536;
 
-// What is kept after some of the input, and how many bytes of it were taken.
-struct Drained {
-    kept: Kept,
-    taken: usize,
-}
-
-// What is kept after a turn, how many bytes of a record that is not whole yet are at the front of the buffer, and whether
-// the input may go on.
-struct Turned {
-    kept: Kept,
-    have: usize,
-    more: bool,
-}
-
-// Reads once, behind what the buffer has. Answers how many bytes it has then.
-fn fill(fd: i32, buffer: &mut [u8], have: usize) -> usize
-    requires { ⌜ have ≤ length (now buffer) ⌝ }
-    ensures { λ r. ⌜ (have ≤ r) × (r ≤ length (now (buffer .exit))) ⌝ }
+// What the buffer has for the next turn: where the walk waits for a read, what that brings behind what was left.
+fn supply(due: Due, fd: i32, buffer: &mut [u8], had: usize) -> Filled
+    requires { ⌜ had ≤ length (now buffer) ⌝ }
+    ensures { λ r. ⌜ Fills had (length (now (buffer .entry))) r ⌝ }
+    ensures { λ _. ⌜ take had (now (buffer .exit)) ≡ take had (now (buffer .entry)) ⌝ }
 {
-    let part = &mut buffer[have..];
-    let got = libc::read(fd, part);
-    have + io::count(got, part)
-}
-
-// Walks through the whole records of the input, and writes their lines.
-fn drain(kept: Kept, store: &mut [u8], list: &[u8], input: &[u8], out: &mut [u8]) -> Drained
-    ensures { λ r. ⌜ r .taken ≤ length (now (input .entry)) ⌝ }
-{
-    let mut next = kept;
-    let mut at = 0;
-    while at < input.len() {
-        let walked = walking::walk(next, store, list, &input[at..], out);
-        if walked.taken == 0 {
-            break;
-        }
-        let laid = walked.laid;
-        io::write_all(STDOUT_FILENO, &out[..laid]);
-        next = walked.kept;
-        at += walked.taken;
-    }
-    Drained {
-        kept: next,
-        taken: at,
+    match due {
+        Due::Read => files::fill(fd, buffer, had),
+        Due::Room => Filled::To(had),
+        Due::Nothing => Filled::To(had),
     }
 }
 
-// A turn: reads once, walks through the whole records, and moves what is left to the front of the buffer.
-fn turn(
+// Turn by turn: writes the text of each, and supplies the next. The output has room for any text of the job, and the
+// buffer for any record, so that no turn is in vain. Answers whether the walk came to its end.
+fn turn_by_turn(
+    job: Job,
     fd: i32,
-    kept: Kept,
-    store: &mut [u8],
+    name: &[u8],
     list: &[u8],
+    store: &mut [u8],
     buffer: &mut [u8],
-    have: usize,
-    spare: &mut [u8],
     out: &mut [u8],
-) -> Turned
-    requires { ⌜ (have ≤ length (now buffer)) × (length (now spare) ≡ length (now buffer)) ⌝ }
-    ensures { λ r. ⌜ r .have ≤ length (now (buffer .exit)) ⌝ }
+) -> bool
+    requires { ⌜ (roomFor job ≤ length (now out)) × (RECORD-MAX ≤ length (now buffer)) ⌝ }
+    ensures { λ _. ⌜ (now (name .exit) ≡ now (name .entry)) × (now (list .exit) ≡ now (list .entry)) ⌝ }
 {
-    let end = fill(fd, buffer, have);
-    if end == have {
-        return Turned {
-            kept,
-            have,
-            more: false,
-        };
-    }
-    let drained = drain(kept, store, list, &buffer[..end], out);
-    let from = drained.taken;
-    let left = end - from;
-    lists::copy(spare, &buffer[from..end]);
-    lists::copy(buffer, &spare[..left]);
-    let next = drained.kept;
-    Turned {
-        kept: next,
-        have: left,
-        more: true,
-    }
-}
-
-// Writes the first line.
-fn write_header(out: &mut [u8])
-    requires { ⌜ LINE-MAX ≤ length (now out) ⌝ }
-    ensures { λ _. ⌜ now (out .exit) ≡ laid (now (out .entry)) 0 headerLine ⌝ }
-{
-    let n = lines::header(out);
-    io::write_all(STDOUT_FILENO, &out[..n]);
-}
-
-// Writes the line of a last record that is cut short.
-fn write_cut(out: &mut [u8], place: u64)
-    requires { ⌜ LINE-MAX ≤ length (now out) ⌝ }
-    ensures { λ _. ⌜ now (out .exit) ≡ laid (now (out .entry)) 0 (cutLineOf place) ⌝ }
-{
-    let n = lines::cut_line(out, place);
-    io::write_all(STDOUT_FILENO, &out[..n]);
-}
-
-// Writes the first line, a line for each record that the descriptor gives, and where the last one is cut short, that.
-pub fn run(fd: i32, list: &[u8])
-    ensures { λ _. ⌜ now (list .exit) ≡ now (list .entry) ⌝ }
-{
-    let mut store = [0u8; STORE];
-    let mut buffer = [0u8; INPUT];
-    let mut spare = [0u8; INPUT];
-    let mut out = [0u8; OUTPUT];
-    write_header(&mut out);
-    let mut kept = walking::begin(&mut store);
-    let mut have = 0;
+    let mut turned = walking::begin(job, store, out);
     // A proved loop has to end, and nothing says that an input does: a count that no run uses up.
     let mut turns = u64::MAX;
     while 0 < turns {
         turns -= 1;
-        let turned = turn(
-            fd,
-            kept,
-            &mut store,
-            list,
-            &mut buffer,
-            have,
-            &mut spare,
-            &mut out,
-        );
-        kept = turned.kept;
-        have = turned.have;
-        if !turned.more {
-            break;
+        let laid = turned.laid;
+        if !files::write(&out[..laid]) {
+            return false;
         }
+        let stand = turned.stand;
+        let due = stand.due;
+        if let Due::Nothing = due {
+            return true;
+        }
+        let Filled::To(end) = supply(due, fd, buffer, stand.had) else {
+            os::fail(name);
+            return false;
+        };
+        turned = walking::turn(job, stand, store, list, &mut buffer[..end], out);
     }
-    if 0 < have {
-        write_cut(&mut out, kept.place);
+    false
+}
+
+// Does a job over what the descriptor gives. Its name is said where it can't be read. Answers whether the run came to
+// its end.
+pub fn run(job: Job, fd: i32, name: &[u8], list: &[u8]) -> bool
+    ensures { λ _. ⌜ (now (name .exit) ≡ now (name .entry)) × (now (list .exit) ≡ now (list .entry)) ⌝ }
+{
+    let mut store = [0u8; STORE];
+    let mut buffer = [0u8; INPUT];
+    let mut out = [0u8; OUTPUT];
+    turn_by_turn(job, fd, name, list, &mut store, &mut buffer, &mut out)
+}
+
+// A program that does a job over standard input. It takes no arguments: any is bad use, which is said in the line
+// given.
+pub fn program(job: Job, list: &[u8], bad_use: &[u8])
+    ensures { λ _. ⌜ (now (list .exit) ≡ now (list .entry)) × (now (bad_use .exit) ≡ now (bad_use .entry)) ⌝ }
+{
+    if 1 < os::arg_count() {
+        io::write_all(STDERR_FILENO, bad_use);
+        return;
     }
+    run(job, STDIN_FILENO, b"standard input", list);
 }

@@ -5,9 +5,9 @@ use Rattle.table.proofs.blank.Reads as blank-reads
 use Rattle.table.proofs.empty.Reads as empty-reads
 use Rattle.table.proofs.find_number.Reads as find-number-reads
 use Rattle.table.proofs.find_free.Reads as find-free-reads
-use Rattle.table.proofs.replace.Reads as replace-reads
-use Rattle.table.proofs.free.Reads as free-reads
-use Rattle.table.proofs.with_record.Reads as with-record-reads
+use Rattle.table.proofs.find_open.Reads as find-open-reads
+use Rattle.table.proofs.find.Reads as find-reads
+use Rattle.table.proofs.put.Reads as put-reads
 use Rattle.table.proofs.sound.Reads as sound-reads
 
 pub blank-one : (κs : _) (a : _) (r r′ : _) (s s′ : _) → blank-reads.Post κs a r s → blank-reads.Post κs a r′ s′ → r ≡ r′
@@ -22,14 +22,14 @@ find-number-one κs a r r′ s s′ p q = p ∙ sym q
 pub find-free-one : (κs : _) (a : _) (r r′ : _) (s s′ : _) → find-free-reads.Post κs a r s → find-free-reads.Post κs a r′ s′ → r ≡ r′
 find-free-one κs a r r′ s s′ p q = p ∙ sym q
 
-pub replace-one : (κs : _) (a : _) (r r′ : _) (s s′ : _) → replace-reads.Post κs a r s → replace-reads.Post κs a r′ s′ → r ≡ r′
-replace-one κs a r r′ s s′ p q = p ∙ sym q
+pub find-open-one : (κs : _) (a : _) (r r′ : _) (s s′ : _) → find-open-reads.Post κs a r s → find-open-reads.Post κs a r′ s′ → r ≡ r′
+find-open-one κs a r r′ s s′ p q = p ∙ sym q
 
-pub free-one : (κs : _) (a : _) (r r′ : _) (s s′ : _) → free-reads.Post κs a r s → free-reads.Post κs a r′ s′ → r ≡ r′
-free-one κs a r r′ s s′ p q = p ∙ sym q
+pub find-one : (κs : _) (a : _) (r r′ : _) (s s′ : _) → find-reads.Post κs a r s → find-reads.Post κs a r′ s′ → r ≡ r′
+find-one κs a r r′ s s′ p q = p ∙ sym q
 
-pub with-record-one : (κs : _) (a : _) (r r′ : _) (s s′ : _) → with-record-reads.Post κs a r s → with-record-reads.Post κs a r′ s′ → r ≡ r′
-with-record-one κs a r r′ s s′ p q = p ∙ sym q
+pub put-one : (κs : _) (a : _) (r r′ : _) (s s′ : _) → put-reads.Post κs a r s → put-reads.Post κs a r′ s′ → r ≡ r′
+put-one κs a r r′ s s′ p q = p ∙ sym q
 
 pub sound-one : (κs : _) (a : _) (r r′ : _) (s s′ : _) → sound-reads.Post κs a r s → sound-reads.Post κs a r′ s′ → r ≡ r′
 sound-one κs a r r′ s s′ p q = p ∙ sym q

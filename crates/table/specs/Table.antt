@@ -1,11 +1,13 @@
 -- The table: "sixteen channel records".
-use Prim.Native.Nat.{ℕ}
-use mathlib.Core.Bool.{Bool, false, not, _&&_}
-use lib.Dec.{eqb}
+use Prim.Native.Nat.{ℕ, _^_}
+use mathlib.Core.Bool.{Bool, false, not, cond, _&&_}
+use lib.Dec.{eqb, ltb}
 use lib.ListN.{getD, set, replicate}
 use Rattle.paper.specs.Sizes.{PARTS}
 use Rattle.lists.specs.Places.{place}
 use Rattle.channel.specs.declared.Record.{Record}
+use Rattle.channel.specs.declared.Change.{Change}
+use Rattle.channel.specs.declared.Change.the-variants.{Stays, Becomes, Frees}
 use Rattle.channel.specs.Channel.{blank}
 use Rattle.table.specs.declared.Table.{Table}
 use Rattle.table.specs.declared.Found.{Found}
@@ -22,6 +24,9 @@ holds n r = r .taken && eqb (r .number) n
 unfoldable pub isFree : Record → Bool
 isFree r = not (r .taken)
 
+abbrev pub isOpen : Record → Bool
+isOpen r = r .taken
+
 -- the place of the record that holds the number, or the number of records where none does
 unfoldable pub numberPlace : ℕ → Table → ℕ
 numberPlace n t = place (holds n) (t .records)
@@ -30,6 +35,10 @@ numberPlace n t = place (holds n) (t .records)
 unfoldable pub freePlace : Table → ℕ
 freePlace t = place isFree (t .records)
 
+-- the place of the lowest-numbered open record, or the number of records where none is open
+unfoldable pub openPlace : Table → ℕ
+openPlace t = place isOpen (t .records)
+
 unfoldable pub recordAt : Table → ℕ → Record
 recordAt t k = getD (t .records) k blank
 
@@ -37,6 +46,33 @@ recordAt t k = getD (t .records) k blank
 unfoldable pub foundIn : ℕ → Table → Found
 foundIn n t = record { place = numberPlace n t; row = recordAt t (numberPlace n t) }
 
+unfoldable pub openIn : Table → Found
+openIn t = record { place = openPlace t; row = recordAt t (openPlace t) }
+
 -- the table with a record at a place; a place that it doesn't have leaves it as it is
 unfoldable pub withRecord : Table → ℕ → Record → Table
 withRecord t k r = record { ready = t .ready; level = t .level; records = set (t .records) k r }
+
+-- where what becomes of the channel with a number is put: its record's place, or the lowest free one's
+unfoldable pub homePlace : ℕ → Table → ℕ
+homePlace n t = cond (ltb (numberPlace n t) PARTS) (numberPlace n t) (freePlace t)
+
+unfoldable pub homeIn : ℕ → Table → Found
+homeIn n t = record { place = homePlace n t; row = recordAt t (numberPlace n t) }
+
+unfoldable pub bitOf : ℕ → ℕ
+bitOf k = cond (ltb k PARTS) (2 ^ k) 0
+
+-- a change, put at place k
+unfoldable pub siteOf : ℕ → Change → ℕ
+siteOf k Stays = PARTS
+siteOf k (Becomes r) = k
+siteOf k Frees = k
+
+unfoldable pub nextOf : Change → Record
+nextOf Stays = blank
+nextOf (Becomes r) = r
+nextOf Frees = blank
+
+unfoldable pub putBack : Table → Bool → ℕ → ℕ → Change → Table
+putBack t ready level k change = record { ready = ready; level = level; records = withRecord t (siteOf k change) (nextOf change) .records }

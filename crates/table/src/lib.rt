@@ -1,15 +1,16 @@
 // The table: sixteen records by value, with whether the connection is ready and the level in use.
 //
 // A table goes in by value and comes back. Every function takes any table, unsound ones too, and any number and place.
+use channel::Change;
 use channel::Record;
 use channel::Stage;
 use paper::MESSAGE_MAX;
 use paper::PARTS;
 ghost use mathlib.Core.Path.{_≡_};
-ghost use mathlib.Core.Bool.{true, not, _&&_, _||_};
+ghost use mathlib.Core.Bool.{true};
 ghost use lib.ListN.{drop};
 ghost use Rattle.channel.specs.Channel.{blank};
-ghost use Rattle.table.specs.Table.{emptyTable, holds, withRecord, numberPlace, freePlace, foundIn};
+ghost use Rattle.table.specs.Table.{emptyTable, holds, withRecord, freePlace, foundIn, openIn, homeIn, bitOf, siteOf, nextOf, putBack};
 ghost use Rattle.table.specs.Sound.{some, every, noNumberTwice, goodStage, goodRecord, goodLevel, soundTable};
 
 pub struct Table {
@@ -48,18 +49,6 @@ pub fn empty() -> Table
         level: 0,
         records: [record; PARTS],
     }
-}
-
-// The table with the record at a place. A place that it doesn't have leaves it as it is.
-pub fn with_record(table: Table, k: usize, record: Record) -> Table
-    ensures { λ r. ⌜ r ≡ withRecord table k «record» ⌝ }
-{
-    if PARTS <= k {
-        return table;
-    }
-    let mut next = table;
-    next.records[k] = record;
-    next
 }
 
 // Whether the record is open with the number.
@@ -106,57 +95,100 @@ pub fn find_free(table: Table) -> usize
     k
 }
 
-// Whether a record is the first that passes a search.
-fn first(passes: bool, done: bool) -> bool
-    ensures { λ r. ⌜ r ≡ (passes && not done) ⌝ }
+// The lowest-numbered open record. Where none is open, the place is sixteen and the record a free one.
+pub fn find_open(table: Table) -> Found
+    ensures { λ r. ⌜ r ≡ openIn table ⌝ }
 {
-    passes && !done
-}
-
-fn either(a: bool, b: bool) -> bool
-    ensures { λ r. ⌜ r ≡ (a || b) ⌝ }
-{
-    a || b
-}
-
-// The two updates below search again in place of taking an index, and go on after the record that they set: compiled, each
-// record is then compared and set where it stands. An index that isn't a constant makes the compiler write the whole table
-// out and read it back. Each has one caller, so that it is compiled into it.
-
-// The table with another record in the place of the one that holds the number. Where none holds it, the table stays.
-pub fn replace(table: Table, number: u32, record: Record) -> Table
-    ensures { λ r. ⌜ r ≡ withRecord table (numberPlace number table) «record» ⌝ }
-{
-    let mut next = table;
-    let mut done = false;
-    let mut i = 0;
-    while i < PARTS {
-        let old = table.records[i];
-        let hit = first(holds(old, number), done);
-        if hit {
-            next.records[i] = record;
+    let mut k = 0;
+    let found = loop {
+        if k == PARTS {
+            let row = blank();
+            break Found { place: k, row };
         }
-        done = either(done, hit);
+        let row = table.records[k];
+        if row.taken {
+            break Found { place: k, row };
+        }
+        k += 1;
+    };
+    found
+}
+
+// The place of a number: of the record that holds it, or else of the lowest free record, or sixteen; with the record that
+// holds it, or a free one.
+pub fn find(table: Table, number: u32) -> Found
+    ensures { λ r. ⌜ r ≡ homeIn number table ⌝ }
+{
+    let found = find_number(table, number);
+    if found.place < PARTS {
+        return found;
+    }
+    let row = found.row;
+    Found {
+        place: find_free(table),
+        row,
+    }
+}
+
+// A place as the bit with its number, or no bit where the table doesn't have it: `put` says why a place is told so.
+fn bit(k: usize) -> u32
+    ensures { λ r. ⌜ r ≡ bitOf k ⌝ }
+{
+    if PARTS <= k {
+        return 0;
+    }
+    let mut power = 1;
+    let mut i = 0;
+    while i < k {
+        power = power * 2;
         i += 1;
     }
-    next
+    power
 }
 
-// The table with the record that holds the number free again. Where none holds it, the table stays.
-pub fn free(table: Table, number: u32) -> Table
-    ensures { λ r. ⌜ r ≡ withRecord table (numberPlace number table) blank ⌝ }
+// Where a change is put: nowhere, if the record stays.
+fn site(k: usize, change: Change) -> usize
+    ensures { λ r. ⌜ r ≡ siteOf k change ⌝ }
 {
-    let spare = blank();
+    match change {
+        Change::Stays => PARTS,
+        Change::Becomes(_) => k,
+        Change::Frees => k,
+    }
+}
+
+// The record that a change puts.
+fn next_record(change: Change) -> Record
+    ensures { λ r. ⌜ r ≡ nextOf change ⌝ }
+{
+    match change {
+        Change::Stays => blank(),
+        Change::Becomes(row) => row,
+        Change::Frees => blank(),
+    }
+}
+
+// The table ready or not, at a level, with what becomes of the record at a place. Every change of a table goes this way.
+//
+// The loop asks of each record in turn whether it is the one, and asks the bits of one number: its last bit, and then the
+// number is halved. It doesn't compare the record's index with the place, since the compiler makes of such a comparison,
+// as of `next.records[k]`, one store at an address that it works out: for that it writes the whole table to memory and reads
+// it back, some 400 instructions. With the bits each record is set where it stands, by sixteen tests. The loop stands here
+// and not in a function of its own for the same reason.
+pub fn put(table: Table, ready: bool, level: u8, k: usize, change: Change) -> Table
+    ensures { λ r. ⌜ r ≡ putBack table ready level k change ⌝ }
+{
+    let record = next_record(change);
+    let mut rest = bit(site(k, change));
     let mut next = table;
-    let mut done = false;
+    next.ready = ready;
+    next.level = level;
     let mut i = 0;
     while i < PARTS {
-        let old = table.records[i];
-        let hit = first(holds(old, number), done);
-        if hit {
-            next.records[i] = spare;
+        if rest % 2 == 1 {
+            next.records[i] = record;
         }
-        done = either(done, hit);
+        rest = rest / 2;
         i += 1;
     }
     next

@@ -1,3 +1,5 @@
+pub mod Records
 pub mod Walks
-pub mod Pieces
+pub mod Turns
+pub mod Runs
 pub mod One

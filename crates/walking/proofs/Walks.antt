@@ -1,35 +1,36 @@
--- The laws of a walk: what is left of it at each turn, and where it ends.
+-- The laws of a walk: what is left of it at each turn of its loop, and where it ends. They hold for any program on the manager.
 -- Assumes nothing.
 use mathlib.Core.Path.{_≡_, refl, ap, _∙_}
 use mathlib.Core.List.{List, [], _∷_}
 use Prim.Native.Nat.{ℕ, _+_, _-_, _≤_, _<_}
 use native.Mathlib.Omega.{arith}
-use borrow.Author.Tests.{lt-ltb, le-ltb}
 use lib.ListN.{length, drop, length-append, length-drop}
 use lib.Seq.{drop-drop}
 use Rattle.lists.specs.Bytes.{laid}
 use Rattle.lists.proofs.Laid.{laid-behind, length-laid}
-use Rattle.lines.specs.Lines.{LINE-MAX}
 use Rattle.records.specs.Records.{wholeOf, pduOf, pdus}
-use Rattle.records.proofs.Records.{whole-fits, length-pdu, pdus-none, pdus-first}
+use Rattle.records.specs.Walks.{Program, Went, stay, onward, walkOver}
+use Rattle.records.proofs.Records.{whole-fits}
+use Rattle.records.proofs.Pieces.{first-taken}
 use Rattle.walking.specs.declared.Kept.{Kept}
-use Rattle.walking.specs.Walking.{Walk, walkOf, keptOf, Went, stay, onward, afterPdu, lineFor, walkOver, Walks}
+use Rattle.walking.specs.declared.Stepped.{Stepped}
+use Rattle.walking.specs.Walking.{Walk, walkOf, keptOf, Steps, Walks}
 
 -- the walk through the records from a place of the input on, with what is used of the room gone
-abbrev pub from : List ℕ → List ℕ → ℕ → Walk → ℕ → ℕ → Went
-from list input room w at used = walkOver list (room - used) w (pdus (drop at input))
+abbrev pub from : Program Walk → List ℕ → ℕ → Walk → ℕ → ℕ → Went Walk
+from p input room w at used = walkOver p (room - used) w (pdus (drop at input))
 
 -- a walk has come to a place of the input and of the output: what is left of it leads to the same end
-pub record Left (input out₀ : List ℕ) (went : Went) (out : List ℕ) (at used : ℕ) (left : Went) : Type 0 where
+pub record Left (input out₀ : List ℕ) (went : Went Walk) (out : List ℕ) (at used : ℕ) (left : Went Walk) : Type 0 where
   pub at-in : at ≤ length input
   pub used-in : used ≤ length out
   pub same-room : length out ≡ length out₀
-  pub end : left .walk ≡ went .walk
+  pub end : left .kept ≡ went .kept
   pub taken : at + left .taken ≡ went .taken
   pub many : used + length (left .text) ≡ length (went .text)
   pub lines : laid out used (left .text) ≡ laid out₀ 0 (went .text)
 
-at-first : (input out : List ℕ) (went : Went) → Left input out went out 0 0 went
+at-first : (input out : List ℕ) (went : Went Walk) → Left input out went out 0 0 went
 at-first input out went =
     record {
       at-in = omega arith;
@@ -42,68 +43,56 @@ at-first input out went =
     }
 
 -- before the first record all is left
-pub begins : (list input out : List ℕ) (w : Walk) → Left input out (walkOver list (length out) w (pdus input)) out 0 0 (from list input (length out) w 0 0)
-begins list input out w =
+pub begins : (p : Program Walk) (input out : List ℕ) (w : Walk) → Left input out (walkOver p (length out) w (pdus input)) out 0 0 (from p input (length out) w 0 0)
+begins p input out w =
     let e : length out - 0 ≡ length out = omega arith in
-    rw e (at-first input out (walkOver list (length out) w (pdus input)))
+    rw e (at-first input out (walkOver p (length out) w (pdus input)))
 
 -- one record on
-one-on : (input out₀ : List ℕ) (went : Went) (out : List ℕ) (at used n : ℕ) (line : List ℕ) (left : Went)
-    → Left input out₀ went out at used (onward n line left) → at + n ≤ length input → used + length line ≤ length out
-    → Left input out₀ went (laid out used line) (at + n) (used + length line) left
-one-on input out₀ went out at used n line left h there roomy =
+one-on : (input out₀ : List ℕ) (went : Went Walk) (out : List ℕ) (at used n : ℕ) (text : List ℕ) (left : Went Walk)
+    → Left input out₀ went out at used (onward n text left) → at + n ≤ length input → used + length text ≤ length out
+    → Left input out₀ went (laid out used text) (at + n) (used + length text) left
+one-on input out₀ went out at used n text left h there roomy =
     record {
       at-in = there;
-      used-in = rw (length-laid out used line) roomy;
-      same-room = length-laid out used line ∙ h .same-room;
+      used-in = rw (length-laid out used text) roomy;
+      same-room = length-laid out used text ∙ h .same-room;
       end = h .end;
       taken = omega (arith, h .taken);
-      many = omega (arith, h .many, length-append line (left .text));
-      lines = laid-behind out used line (left .text) ∙ h .lines;
+      many = omega (arith, h .many, length-append text (left .text));
+      lines = laid-behind out used text (left .text) ∙ h .lines;
     }
 
--- a walk with room for a line takes the record in front
-walk-one : (list input : List ℕ) (room : ℕ) (w : Walk) (at used : ℕ) → LINE-MAX ≤ room - used → 0 < wholeOf (drop at input)
-    → from list input room w at used ≡ onward (wholeOf (drop at input)) (lineFor list w (pduOf (drop at input))) (from list input room (afterPdu list w (pduOf (drop at input))) (at + wholeOf (drop at input)) (used + length (lineFor list w (pduOf (drop at input)))))
-unfolding walkOver
-walk-one list input room w at used roomy some =
+-- a walk with room takes the record in front
+walk-one : (p : Program Walk) (input : List ℕ) (room : ℕ) (w : Walk) (at used : ℕ) → p .room ≤ room - used → 0 < wholeOf (drop at input)
+    → from p input room w at used ≡ onward (wholeOf (drop at input)) (p .text w (pduOf (drop at input))) (from p input room (p .after w (pduOf (drop at input))) (at + wholeOf (drop at input)) (used + length (p .text w (pduOf (drop at input)))))
+walk-one p input room w at used roomy some =
     let rest = drop at input in
-    let line = lineFor list w (pduOf rest) in
-    let e : room - used - length line ≡ room - (used + length line) = omega arith in
-    rw (pdus-first rest some, le-ltb _ _ roomy, length-pdu rest some, e, drop-drop (wholeOf rest) at input)
+    let text = p .text w (pduOf rest) in
+    let e : room - used - length text ≡ room - (used + length text) = omega arith in
+    rw (first-taken p (room - used) w rest roomy some, e, drop-drop (wholeOf rest) at input)
 
--- a turn: the record in front is taken, and its line laid
-pub turn : (list input out₀ : List ℕ) (went : Went) (store out : List ℕ) (next : Kept) (at used n : ℕ) {pdu store′ out′ : List ℕ} {next′ : Kept} {m : ℕ}
-    → Left input out₀ went out at used (from list input (length out₀) (walkOf next store) at used)
-    → LINE-MAX ≤ length out - used → n ≡ wholeOf (drop at input) → 0 < n → pdu ≡ pduOf (drop at input)
-    → next′ ≡ keptOf (afterPdu list (walkOf next store) pdu) → store′ ≡ afterPdu list (walkOf next store) pdu .store
-    → m ≡ length (lineFor list (walkOf next store) pdu) → m ≤ LINE-MAX → out′ ≡ laid out used (lineFor list (walkOf next store) pdu)
-    → Left input out₀ went out′ (at + n) (used + m) (from list input (length out₀) (walkOf next′ store′) (at + n) (used + m))
-turn list input out₀ went store out next at used n {pdu} h roomy whole some lent kept stored long small lines =
+-- a turn: the record in front is taken, and its text laid
+pub turn : (p : Program Walk) (input out₀ : List ℕ) (went : Went Walk) (store out : List ℕ) (next : Kept) (at used n : ℕ) {bytes lent store′ lent′ out′ : List ℕ} {r : Stepped}
+    → Left input out₀ went out at used (from p input (length out₀) (walkOf next store) at used)
+    → p .room ≤ length out - used → n ≡ wholeOf (drop at input) → 0 < n → bytes ≡ pduOf (drop at input)
+    → Steps p (walkOf next store) bytes lent r store′ lent′ → out′ ≡ laid out used (p .text (walkOf next store) bytes)
+    → Left input out₀ went out′ (at + n) (used + r .laid) (from p input (length out₀) (walkOf (r .kept) store′) (at + n) (used + r .laid))
+turn p input out₀ went store out next at used n {bytes} h roomy whole some lent did lines =
     let rest = drop at input in
-    let line = lineFor list (walkOf next store) (pduOf rest) in
+    let text = p .text (walkOf next store) (pduOf rest) in
     let there : at + wholeOf rest ≤ length input = omega (arith, whole-fits rest .0, length-drop at input) in
-    let room : LINE-MAX ≤ length out₀ - used = omega arith in
-    let fits : used + length line ≤ length out = omega (arith, rw lent at long) in
-    let first = rw (walk-one list input (length out₀) (walkOf next store) at used room (rw whole at some)) at h in
-    rw (lines, kept, stored, long, lent, whole) (one-on input out₀ went out at used (wholeOf rest) line _ first there fits)
-
--- no room for a line
-pub no-room : (list : List ℕ) (room : ℕ) (w : Walk) (ps : List (List ℕ)) → room < LINE-MAX → walkOver list room w ps ≡ stay w
-unfolding walkOver
-no-room list room w [] h = refl
-no-room list room w (p ∷ ps) h = rw (lt-ltb room LINE-MAX h)
-
--- no whole record
-pub no-record : (list : List ℕ) (room : ℕ) (w : Walk) (input : List ℕ) → wholeOf input ≡ 0 → walkOver list room w (pdus input) ≡ stay w
-unfolding walkOver
-no-record list room w input h = rw (pdus-none input h)
+    let room : p .room ≤ length out₀ - used = omega arith in
+    let long = rw lent at (did .length-laid) in
+    let fits : used + length text ≤ length out = omega (arith, did .fits, long) in
+    let first = rw (walk-one p input (length out₀) (walkOf next store) at used room (rw whole at some)) at h in
+    rw (lines, did .kept, did .stored, did .length-laid, lent, whole) (one-on input out₀ went out at used (wholeOf rest) text _ first there fits)
 
 nothing-laid : (l : List ℕ) (at : ℕ) → l ≡ laid l at []
 unfolding laid
 nothing-laid l at = refl
 
-stopped : (input out₀ : List ℕ) (went : Went) (store out : List ℕ) (next : Kept) (at used : ℕ)
+stopped : (input out₀ : List ℕ) (went : Went Walk) (store out : List ℕ) (next : Kept) (at used : ℕ)
     → Left input out₀ went out at used (stay (walkOf next store)) → Walks went out₀ (record { kept = next; taken = at; laid = used }) store out
 stopped input out₀ went store out next at used h =
     record {
@@ -115,7 +104,7 @@ stopped input out₀ went store out next at used h =
     }
 
 -- where nothing is left to go the walk has ended
-pub ends : (input out₀ : List ℕ) (went : Went) (store out : List ℕ) (next : Kept) (at used : ℕ) {left : Went}
+pub ends : (input out₀ : List ℕ) (went : Went Walk) (store out : List ℕ) (next : Kept) (at used : ℕ) {left : Went Walk}
     → Left input out₀ went out at used left → left ≡ stay (walkOf next store)
     → Walks went out₀ (record { kept = next; taken = at; laid = used }) store out
 ends input out₀ went store out next at used h e = stopped input out₀ went store out next at used (rw e at h)

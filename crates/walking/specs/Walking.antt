@@ -1,18 +1,29 @@
--- A walk through records: each PDU goes to the client's step, and a line says what was answered.
-use Prim.Native.Nat.{ℕ, _+_, _-_, _%_, _^_}
-use mathlib.Core.Bool.{cond}
-use mathlib.Core.List.{List, [], _∷_, _++_}
-use lib.Dec.{ltb}
-use lib.ListN.{length}
-use Rattle.paper.specs.Sizes.{REPLY-MIN}
+-- The manager's walks over records: each record goes to the client's step, and what is written says what was answered.
+use Prim.Native.Nat.{ℕ, _+_, _-_, _%_, _^_, _≤_}
+use mathlib.Core.Bool.{Bool, false, cond}
+use mathlib.Core.List.{List, []}
+use lib.Dec.{eqb}
+use lib.ListN.{length, take, drop, getD}
+use Rattle.paper.specs.Sizes.{STORE, REPLY-MIN}
 use Rattle.lists.specs.Bytes.{laid, zeros}
+use Rattle.numbers.specs.Numbers.{valueOf}
+use Rattle.channel.specs.declared.Answer.{Answer}
+use Rattle.channel.specs.declared.Answer.the-variants.{Ready, Opened, Declined, Held, Message, Closed, Ignored, Refused}
 use Rattle.table.specs.declared.Table.{Table}
-use Rattle.table.specs.Table.{emptyTable}
-use Rattle.client.specs.Client.{Whole, received}
-use Rattle.lines.specs.Lines.{LINE-MAX, lineOf}
-use Rattle.records.specs.Records.{LENGTH}
+use Rattle.table.specs.Table.{emptyTable, numberPlace}
+use Rattle.store.specs.Parts.{part}
+use Rattle.client.specs.declared.Received.{Received}
+use Rattle.client.specs.Client.{Whole, received, locallyClosed}
+use Rattle.lines.specs.Lines.{LINE-MAX, MESSAGE-LINE-MAX, headerLine, lineOf, cutLineOf, messageLineOf}
+use Rattle.records.specs.declared.Due.the-variants.{Read}
+use Rattle.records.specs.Walks.{Program, output, Went, Turned}
+use Rattle.walking.specs.declared.Job.{Job}
+use Rattle.walking.specs.declared.Job.the-variants.{Lines, Messages, Moves}
 use Rattle.walking.specs.declared.Kept.{Kept}
+use Rattle.walking.specs.declared.Stand.{Stand}
+use Rattle.walking.specs.declared.Stepped.{Stepped}
 use Rattle.walking.specs.declared.Walked.{Walked}
+use Rattle.walking.specs.declared.Turned.{Turned as Turn}
 
 -- the table with its store, and the place of the next record
 pub record Walk : Type 0 where
@@ -26,52 +37,125 @@ walkOf kept store = record { table = kept .table; store = store; place = kept .p
 abbrev pub keptOf : Walk → Kept
 keptOf w = record { table = w .table; place = w .place }
 
--- "place from 0"
-unfoldable pub beginning : Kept
-beginning = record { table = emptyTable; place = 0 }
+-- "place from 0"; a walk begins with a read
+unfoldable pub beginning : Stand
+beginning = record { kept = record { table = emptyTable; place = 0 }; had = 0; due = Read }
 
 -- places are counted in 64 bits, which no run uses up
 abbrev pub PLACES : ℕ
 PLACES = 2 ^ 64
 
--- what the client's step gives for a PDU
-unfoldable pub answered : List ℕ → Walk → List ℕ → Whole
-answered list w pdu = received (w .table) (w .store) list pdu (zeros REPLY-MIN)
+-- ---- a record
 
-unfoldable pub afterPdu : List ℕ → Walk → List ℕ → Walk
-afterPdu list w pdu = record { table = answered list w pdu .result .table; store = answered list w pdu .store; place = (w .place + 1) % PLACES }
+-- among moves a record whose first byte is 0, which no command has, is a local close
+unfoldable pub isClose : Job → List ℕ → Bool
+isClose Lines bytes = false
+isClose Messages bytes = false
+isClose Moves bytes = eqb (getD bytes 0 1) 0
 
-unfoldable pub lineFor : List ℕ → Walk → List ℕ → List ℕ
-lineFor list w pdu = lineOf (w .place) (answered list w pdu .result .answer) (answered list w pdu .result .sent)
+-- the channel's number stands behind that byte, little-endian
+abbrev pub closeNumber : List ℕ → ℕ
+closeNumber bytes = valueOf (drop 1 bytes)
 
--- where a walk has come: what it keeps, how many bytes of the input it took, and its lines
-pub record Went : Type 0 where
-  pub walk : Walk
-  pub taken : ℕ
-  pub text : List ℕ
+-- what the client's step gives for a record
+unfoldable pub answered : Job → List ℕ → Walk → List ℕ → Whole
+answered job list w bytes =
+    cond (isClose job bytes) (locallyClosed (w .table) (w .store) (closeNumber bytes) (zeros REPLY-MIN))
+    (received (w .table) (w .store) list bytes (zeros REPLY-MIN))
 
-abbrev pub stay : Walk → Went
-stay w = record { walk = w; taken = 0; text = [] }
+unfoldable pub afterRecord : Job → List ℕ → Walk → List ℕ → Walk
+afterRecord job list w bytes =
+    record {
+      table = answered job list w bytes .result .table;
+      store = answered job list w bytes .store;
+      place = (w .place + 1) % PLACES;
+    }
 
-abbrev pub onward : ℕ → List ℕ → Went → Went
-onward n text went = record { walk = went .walk; taken = n + went .taken; text = text ++ went .text }
+-- ---- what is written
 
--- a walk through PDUs, while there is room for a line
-unfoldable pub walkOver : List ℕ → ℕ → Walk → List (List ℕ) → Went
-walkOver list room w [] = stay w
-walkOver list room w (pdu ∷ pdus) =
-    cond (ltb room LINE-MAX) (stay w)
-    (onward (LENGTH + length pdu) (lineFor list w pdu) (walkOver list (room - length (lineFor list w pdu)) (afterPdu list w pdu) pdus))
+-- "A handed-up message of n bytes is the first n bytes of that part."
+unfoldable pub handedUp : Table → List ℕ → ℕ → ℕ → List ℕ
+handedUp t store number n = take n (part store (numberPlace number t))
+
+-- a line for a message handed up, and nothing for any other answer
+unfoldable pub messageText : ℕ → Table → List ℕ → Answer → List ℕ
+messageText place t store (Ready level) = []
+messageText place t store (Opened number) = []
+messageText place t store (Declined number why) = []
+messageText place t store (Held number left) = []
+messageText place t store (Message number n) = messageLineOf place number (handedUp t store number n)
+messageText place t store (Closed number) = []
+messageText place t store (Ignored number) = []
+messageText place t store (Refused why concern) = []
+
+-- the text of a record, from what the step gave and left in the store
+unfoldable pub textFor : Job → ℕ → Received → List ℕ → List ℕ
+textFor Lines place r store = lineOf place (r .answer) (r .sent)
+textFor Messages place r store = messageText place (r .table) store (r .answer)
+textFor Moves place r store = lineOf place (r .answer) (r .sent)
+
+unfoldable pub firstFor : Job → List ℕ
+firstFor Lines = headerLine
+firstFor Messages = []
+firstFor Moves = headerLine
+
+unfoldable pub cutFor : Job → ℕ → List ℕ
+cutFor Lines place = cutLineOf place
+cutFor Messages place = []
+cutFor Moves place = cutLineOf place
+
+-- the most bytes of a record's text
+unfoldable pub roomFor : Job → ℕ
+roomFor Lines = LINE-MAX
+roomFor Messages = MESSAGE-LINE-MAX
+roomFor Moves = LINE-MAX
+
+-- the program that does a job, with a listener list
+unfoldable pub program : Job → List ℕ → Program Walk
+program job list =
+    record {
+      first = firstFor job;
+      room = roomFor job;
+      after = afterRecord job list;
+      text = λ w bytes. textFor job (w .place) (answered job list w bytes .result) (answered job list w bytes .store);
+      cut = λ w. cutFor job (w .place);
+    }
+
+-- where every run begins: the empty table, a store of zeros, place 0
+unfoldable pub startWalk : Walk
+startWalk = record { table = emptyTable; store = zeros STORE; place = 0 }
+
+-- all that the program writes for an input
+abbrev pub outputOf : Job → List ℕ → List ℕ → List ℕ
+outputOf job list input = output (program job list) startWalk input
+
+-- ---- the functions
+
+-- a function takes one record's step: its result, and every byte of the store and of the output buffer
+pub record Steps (p : Program Walk) (w : Walk) (bytes out : List ℕ) (r : Stepped) (storeAfter outAfter : List ℕ) : Type 0 where
+  pub kept : Path Kept (r .kept) (keptOf (p .after w bytes))
+  pub length-laid : Path ℕ (r .laid) (length (p .text w bytes))
+  pub fits : r .laid ≤ p .room
+  pub stored : Path (List ℕ) storeAfter (p .after w bytes .store)
+  pub lines : Path (List ℕ) outAfter (laid out 0 (p .text w bytes))
 
 -- a function goes a walk's way: its result, and every byte of the store and of the output buffer
-pub record Walks (went : Went) (out : List ℕ) (r : Walked) (storeAfter outAfter : List ℕ) : Type 0 where
-  pub kept : Path Kept (r .kept) (keptOf (went .walk))
+pub record Walks (went : Went Walk) (out : List ℕ) (r : Walked) (storeAfter outAfter : List ℕ) : Type 0 where
+  pub kept : Path Kept (r .kept) (keptOf (went .kept))
   pub taken : Path ℕ (r .taken) (went .taken)
   pub length-laid : Path ℕ (r .laid) (length (went .text))
-  pub stored : Path (List ℕ) storeAfter (went .walk .store)
+  pub stored : Path (List ℕ) storeAfter (went .kept .store)
   pub lines : Path (List ℕ) outAfter (laid out 0 (went .text))
 
--- all the lines of a walk through PDUs
-unfoldable pub allLines : List ℕ → Walk → List (List ℕ) → List ℕ
-allLines list w [] = []
-allLines list w (pdu ∷ pdus) = lineFor list w pdu ++ allLines list (afterPdu list w pdu) pdus
+-- where a walk stands after a turn: what it didn't take is left
+abbrev pub standOf : Turned Walk → List ℕ → Stand
+standOf t input = record { kept = keptOf (t .went .kept); had = length input - t .went .taken; due = t .due }
+
+-- a function takes a walk's turn: its result, and every byte of the store and of both buffers. What is left of the input
+-- comes to its front
+pub record Turns (t : Turned Walk) (input out : List ℕ) (r : Turn) (storeAfter inputAfter outAfter : List ℕ) : Type 0 where
+  pub stand : Path Stand (r .stand) (standOf t input)
+  pub length-laid : Path ℕ (r .laid) (length (t .went .text))
+  pub stored : Path (List ℕ) storeAfter (t .went .kept .store)
+  pub moved : Path (List ℕ) inputAfter (laid input 0 (drop (t .went .taken) input))
+  pub lines : Path (List ℕ) outAfter (laid out 0 (t .went .text))

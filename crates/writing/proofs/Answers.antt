@@ -15,20 +15,23 @@ use Rattle.writing.specs.declared.Written.{Written}
 use Rattle.writing.specs.declared.Written.the-variants.{Length, Refused}
 
 -- the answer to the buffer's length, the values and the PDU's length is the PDU's answer
-answered : {bad b : Bool} (pdu out : List ℕ) {r : Written} {len : ℕ} → r ≡ judged (length out) b len → b ≡ bad → len ≡ length pdu → r ≡ written bad pdu out
+pub answered : {bad b : Bool} (pdu out : List ℕ) {r : Written} {len : ℕ} → r ≡ judged (length out) b len → b ≡ bad
+    → len ≡ length pdu → r ≡ written bad pdu out
 unfolding written
 answered pdu out e f g = e ∙ rw (f, g)
 
 -- not refused: the PDU is laid
-pub laid-so : {bad b : Bool} (pdu out : List ℕ) {after : List ℕ} {r : Written} {len n : ℕ} → r ≡ judged (length out) b len → b ≡ bad → len ≡ length pdu → r ≡ Length n → after ≡ laid out 0 pdu → (r ≡ written bad pdu out) × (after ≡ bufferAfter r pdu out)
+pub laid-so : (pdu out : List ℕ) {after : List ℕ} {r : Written} {n : ℕ} → r ≡ Length n → after ≡ laid out 0 pdu
+    → after ≡ bufferAfter r pdu out
 unfolding bufferAfter
-laid-so pdu out e f g told h = (answered pdu out e f g, rw told h)
+laid-so pdu out told h = rw told h
 
 -- refused: nothing is touched
-pub refused-so : {bad b : Bool} (pdu out : List ℕ) {r : Written} {len : ℕ} {why : Refusal} → r ≡ judged (length out) b len → b ≡ bad → len ≡ length pdu → r ≡ Refused why → (r ≡ written bad pdu out) × (out ≡ bufferAfter r pdu out)
+pub refused-so : (pdu out : List ℕ) {r : Written} {why : Refusal} → r ≡ Refused why → out ≡ bufferAfter r pdu out
 unfolding bufferAfter
-refused-so pdu out e f g told = (answered pdu out e f g, rw told)
+refused-so pdu out told = rw told
 
-pub length-request : (version : ℕ) (charges : Charges) → length (capsRequestBytes version charges) ≡ requestLength version
+pub length-request : (version : ℕ) (charges : Charges)
+    → length (capsRequestBytes version charges) ≡ requestLength version
 unfolding requestLength
 length-request version charges = length-caps-request version charges

@@ -17,20 +17,24 @@ use Rattle.writing.proofs.write_capabilities_request.Reads as write-cap
 use Rattle.writing.proofs.write_capabilities_response.Reads as write-capabilities-response
 
 -- the buffer is what the answer leaves of it
-written-one : (v : Written) (pdu out : List ℕ) {r r′ : Written} {b b′ : List ℕ} → (r ≡ v) × (b ≡ bufferAfter r pdu out) → (r′ ≡ v) × (b′ ≡ bufferAfter r′ pdu out) → (r ≡ r′) × (b ≡ b′)
+written-one : (v : Written) (pdu out : List ℕ) {r r′ : Written} {b b′ : List ℕ}
+    → (r ≡ v) × (b ≡ bufferAfter r pdu out) → (r′ ≡ v) × (b′ ≡ bufferAfter r′ pdu out) → (r ≡ r′) × (b ≡ b′)
 written-one v pdu out p q =
     let e = same (p .0) (q .0) in
     (e, p .1 ∙ rw e (sym (q .1)))
 
-pub write-create-request-one : (κs : _) (a : _) (r r′ : _) (s s′ : _) → write-create-request.Post κs a r s → write-create-request.Post κs a r′ s′
+pub write-create-request-one : (κs : _) (a : _) (r r′ : _) (s s′ : _) → write-create-request.Post κs a r s
+    → write-create-request.Post κs a r′ s′
     → (r ≡ r′) × (now (s .0) ≡ now (s′ .0))
 write-create-request-one κs a r r′ s s′ p q = written-one _ _ _ p q
 
-pub write-create-response-one : (κs : _) (a : _) (r r′ : _) (s s′ : _) → write-create-response.Post κs a r s → write-create-response.Post κs a r′ s′
+pub write-create-response-one : (κs : _) (a : _) (r r′ : _) (s s′ : _) → write-create-response.Post κs a r s
+    → write-create-response.Post κs a r′ s′
     → (r ≡ r′) × (now (s .0) ≡ now (s′ .0))
 write-create-response-one κs a r r′ s s′ p q = written-one _ _ _ p q
 
-pub write-data-first-one : (κs : _) (a : _) (r r′ : _) (s s′ : _) → write-data-first.Post κs a r s → write-data-first.Post κs a r′ s′
+pub write-data-first-one : (κs : _) (a : _) (r r′ : _) (s s′ : _) → write-data-first.Post κs a r s
+    → write-data-first.Post κs a r′ s′
     → (r ≡ r′) × (now (s .0) ≡ now (s′ .0))
 write-data-first-one κs a r r′ s s′ p q = written-one _ _ _ p q
 
@@ -42,10 +46,12 @@ pub write-close-one : (κs : _) (a : _) (r r′ : _) (s s′ : _) → write-clos
     → (r ≡ r′) × (now (s .0) ≡ now (s′ .0))
 write-close-one κs a r r′ s s′ p q = written-one _ _ _ p q
 
-pub write-capabilities-request-one : (κs : _) (a : _) (r r′ : _) (s s′ : _) → write-capabilities-request.Post κs a r s → write-capabilities-request.Post κs a r′ s′
+pub write-capabilities-request-one : (κs : _) (a : _) (r r′ : _) (s s′ : _)
+    → write-capabilities-request.Post κs a r s → write-capabilities-request.Post κs a r′ s′
     → (r ≡ r′) × (now (s .0) ≡ now (s′ .0))
 write-capabilities-request-one κs a r r′ s s′ p q = written-one _ _ _ p q
 
-pub write-capabilities-response-one : (κs : _) (a : _) (r r′ : _) (s s′ : _) → write-capabilities-response.Post κs a r s → write-capabilities-response.Post κs a r′ s′
+pub write-capabilities-response-one : (κs : _) (a : _) (r r′ : _) (s s′ : _)
+    → write-capabilities-response.Post κs a r s → write-capabilities-response.Post κs a r′ s′
     → (r ≡ r′) × (now (s .0) ≡ now (s′ .0))
 write-capabilities-response-one κs a r r′ s s′ p q = written-one _ _ _ p q

@@ -9,7 +9,7 @@ use lib.ListN.{length}
 use Rattle.paper.specs.Sizes.{PDU-MAX}
 use Rattle.paper.specs.Rows.{fine, refusedWith, firstHeld, comesTo}
 use Rattle.paper.specs.declared.Refusal.{Refusal}
-use Rattle.paper.specs.declared.Refusal.the-variants.{WrongSize, BadField, OverLimit}
+use Rattle.paper.specs.declared.Refusal.the-variants.{BadCall, BadField, OverLimit}
 use Rattle.writing.specs.Writing.{judged, written, bufferAfter, outcome, writingRows}
 use Rattle.writing.specs.declared.Written.{Written}
 use Rattle.writing.specs.declared.Written.the-variants.{Length, Refused}
@@ -21,8 +21,8 @@ writing-refusals bad pdu out = go (ltb (length out) PDU-MAX) bad (ltb PDU-MAX (l
   where
     go :
         (a b c : Bool)
-        → outcome (cond a (Refused WrongSize) (cond b (Refused BadField) (cond c (Refused OverLimit) (Length (length pdu)))))
-        ≡ comesTo (length pdu) (cond a (refusedWith WrongSize) (cond b (refusedWith BadField) (cond c (refusedWith OverLimit) fine)))
+        → outcome (cond a (Refused BadCall) (cond b (Refused BadField) (cond c (Refused OverLimit) (Length (length pdu)))))
+        ≡ comesTo (length pdu) (cond a (refusedWith BadCall) (cond b (refusedWith BadField) (cond c (refusedWith OverLimit) fine)))
     go true b c = refl
     go false true c = refl
     go false false true = refl

@@ -14,20 +14,48 @@ use mir.Syntax.{w32}
 use mir.Val.{SFits}
 use denote.Ref.{now}
 use Rattle.paper.specs.Sizes.{PDU-MAX}
-use Rattle.paper.specs.declared.Refusal.the-variants.{WrongSize, BadField, OverLimit}
+use Rattle.paper.specs.declared.Refusal.the-variants.{BadCall, BadField, OverLimit}
 use Rattle.lists.specs.Bytes.{laid, isZero}
 use Rattle.lists.specs.Places.{place}
 use Rattle.lists.proofs.Cases.{both, neither}
 use Rattle.lists.proofs.Laid.{front}
 use Rattle.numbers.specs.Numbers.{NUMBERS}
 use Rattle.reading.specs.declared.Charges.{Charges}
-use Rattle.reading.specs.Grammar.{Value, create-request, create-response, data-first, data-block, close, capabilities-request,
-    capabilities-response, values, readAs, SmallCharges, noCharges, Encodes}
+use Rattle.reading.specs.Grammar.{
+  Value,
+  create-request,
+  create-response,
+  data-first,
+  data-block,
+  close,
+  capabilities-request,
+  capabilities-response,
+  values,
+  readAs,
+  SmallCharges,
+  noCharges,
+  Encodes,
+}
 use Rattle.reading.proofs.Grammar.{every-encoding, zero-free, same-charges}
-use Rattle.laying.specs.Laying.{createRequestBytes, createResponseBytes, dataFirstBytes, dataBytes, closeBytes, capsRequestBytes,
-    capsResponseBytes}
-use Rattle.laying.proofs.Encoded.{close-encoded, data-encoded, data-first-encoded, create-response-encoded, create-request-encoded,
-    caps-response-encoded, caps-request-1-encoded, caps-request-encoded}
+use Rattle.laying.specs.Laying.{
+  createRequestBytes,
+  createResponseBytes,
+  dataFirstBytes,
+  dataBytes,
+  closeBytes,
+  capsRequestBytes,
+  capsResponseBytes,
+}
+use Rattle.laying.proofs.Encoded.{
+  close-encoded,
+  data-encoded,
+  data-first-encoded,
+  create-response-encoded,
+  create-request-encoded,
+  caps-response-encoded,
+  caps-request-1-encoded,
+  caps-request-encoded,
+}
 use Rattle.writing.specs.Writing.{judged, written, bufferAfter, badRequest, badVersion, allZero, badCapabilities}
 use Rattle.writing.specs.ReadBack.{ReadsBack}
 use Rattle.writing.specs.declared.Written.{Written}
@@ -54,7 +82,7 @@ went bad pdu out after r n e f g = go (ltb (length out) PDU-MAX) bad (ltb PDU-MA
   where
     go :
         (s t u : Bool) → ltb (length out) PDU-MAX ≡ s → bad ≡ t → ltb PDU-MAX (length pdu) ≡ u
-        → cond s (Refused WrongSize) (cond t (Refused BadField) (cond u (Refused OverLimit) (Length (length pdu)))) ≡ Length n
+        → cond s (Refused BadCall) (cond t (Refused BadField) (cond u (Refused OverLimit) (Length (length pdu)))) ≡ Length n
         → Went bad pdu after n
     go true t u p q w h = let z : _≡_ {A = ℕ} 0 1 = cc in absurd (omega arith)
     go false true u p q w h = let z : _≡_ {A = ℕ} 0 1 = cc in absurd (omega arith)

@@ -8,7 +8,7 @@ use Rattle.paper.specs.Sizes.{PDU-MAX}
 use Rattle.paper.specs.Refusals.{refusalNumber}
 use Rattle.paper.specs.Rows.{Row, row, Outcome, done, refusal}
 use Rattle.paper.specs.declared.Refusal.{Refusal}
-use Rattle.paper.specs.declared.Refusal.the-variants.{WrongSize, BadField, OverLimit}
+use Rattle.paper.specs.declared.Refusal.the-variants.{BadCall, BadField, OverLimit}
 use Rattle.lists.specs.Places.{place}
 use Rattle.lists.specs.Bytes.{laid, isZero}
 use Rattle.reading.specs.declared.Charges.{Charges}
@@ -22,7 +22,7 @@ refuse why test rest = cond test (Refused why) rest
 -- 1: the buffer is not of its size; 5: a value is bad; 11: "a PDU that would pass 1,600"
 unfoldable pub judged : ℕ → Bool → ℕ → Written
 judged room bad len =
-    refuse WrongSize (ltb room PDU-MAX)
+    refuse BadCall (ltb room PDU-MAX)
     (refuse BadField bad
     (refuse OverLimit (ltb PDU-MAX len)
     (Length len)))
@@ -31,8 +31,8 @@ judged room bad len =
 unfoldable pub written : Bool → List ℕ → List ℕ → Written
 written bad pdu out = judged (length out) bad (length pdu)
 
--- "Bytes of a reply or PDU buffer behind the written ones stay." "Store, reply and PDU buffer are unchanged by every
--- refusal."
+-- "Bytes of a reply or PDU buffer behind the written ones stay." "Store, reply
+-- and PDU buffer are unchanged by every refusal."
 unfoldable pub bufferAfter : Written → List ℕ → List ℕ → List ℕ
 bufferAfter (Length n) pdu out = laid out 0 pdu
 bufferAfter (Refused why) pdu out = out
@@ -67,7 +67,7 @@ outcome (Refused why) = refusal (refusalNumber why)
 -- "Writing: 1, 5, 11."
 unfoldable pub writingRows : Bool → List ℕ → List ℕ → List Row
 writingRows bad pdu out =
-    row WrongSize (ltb (length out) PDU-MAX)
+    row BadCall (ltb (length out) PDU-MAX)
     ∷ row BadField bad
     ∷ row OverLimit (ltb PDU-MAX (length pdu))
     ∷ []

@@ -8,8 +8,10 @@ use reading::Charges;
 ghost use mathlib.Core.Path.{_≡_};
 ghost use mathlib.Core.Bool.{false};
 ghost use lib.ListN;
-ghost use Rattle.laying.specs.Laying.{createRequestBytes, createResponseBytes, dataFirstBytes, dataBytes, closeBytes, capsRequestBytes, capsResponseBytes};
-ghost use Rattle.writing.specs.Writing.{judged, written, bufferAfter, badRequest, badVersion, badCapabilities, allZero, requestLength};
+ghost use Rattle.laying.specs.Laying.{createRequestBytes, createResponseBytes, dataFirstBytes, dataBytes, closeBytes};
+ghost use Rattle.laying.specs.Laying.{capsRequestBytes, capsResponseBytes};
+ghost use Rattle.writing.specs.Writing.{judged, written, bufferAfter};
+ghost use Rattle.writing.specs.Writing.{badRequest, badVersion, badCapabilities, allZero, requestLength};
 
 // What writing answers.
 pub enum Written {
@@ -23,7 +25,7 @@ fn judge(room: usize, bad: bool, length: usize) -> Written
     ensures { λ r. ⌜ r ≡ judged room bad length ⌝ }
 {
     if room < PDU_MAX {
-        return Written::Refused(Refusal::WrongSize);
+        return Written::Refused(Refusal::BadCall);
     }
     if bad {
         return Written::Refused(Refusal::BadField);
@@ -90,7 +92,8 @@ fn request_length(version: u16) -> usize
 }
 
 pub fn write_create_request(out: &mut [u8], number: u32, class: u8, name: &[u8]) -> Written
-    ensures { λ r. ⌜ r ≡ written (badRequest class (now (name .entry))) (createRequestBytes number class (now (name .entry))) (now (out .entry)) ⌝ }
+    ensures { λ r. ⌜ r ≡ written (badRequest class (now (name .entry)))
+        (createRequestBytes number class (now (name .entry))) (now (out .entry)) ⌝ }
     ensures { λ r. ⌜ now (out .exit) ≡ bufferAfter r (createRequestBytes number class (now (name .entry))) (now (out .entry)) ⌝ }
 {
     let length = 1 + numbers::narrow(number) + name.len() + 1;

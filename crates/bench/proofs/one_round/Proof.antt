@@ -1,16 +1,33 @@
--- `bench::one_round` meets its contract: the place lies in the file, and each record moves it on by two bytes or more.
-use Prim.Native.Nat.{_≤_, _-_}
+-- `bench::one_round` meets its contract: the place lies in the file, and each turn moves it on, or closes one channel more.
+use Prim.Native.Nat.{ℕ, _≤_, _<_, _+_, _-_}
 use mathlib.Core.Path.{_≡_}
 use lib.ListN.{length}
+use denote.Ref.{now}
+use mathlib.Core.Logic.{⊎-elim}
+use native.Mathlib.Omega.{arith}
 use borrow.Author.Needs.{needs}
 use Rattle.bench.proofs.one_round.Statement.{statement}
 use Rattle.bench.proofs.one_round.Tie as tie
 
 abbrev Inv-loop : tie.InvT-loop
-Inv-loop file store₀ reply₀ table₀ tally₀ at₀ t14 store reply table tally at = (at ≤ length file) × (length store ≡ length store₀) × (length reply ≡ length reply₀)
+Inv-loop file store₀ reply₀ table₀ tally₀ at₀ closes₀ store reply table tally at closes = (at ≤ length file) × (closes ≤ 16) × (length store ≡ length store₀) × (length reply ≡ length reply₀)
 
 abbrev μ-loop : tie.MeasureT-loop
-μ-loop file store₀ reply₀ table₀ tally₀ at₀ t14 store reply table tally at = length file - at
+μ-loop file store₀ reply₀ table₀ tally₀ at₀ closes₀ store reply table tally at closes = (length file - at) + (16 - closes)
+
+-- what a turn is about lies in the file, and leaves less to do
+record Ahead (file at closes start end closesThen : ℕ) : Type 0 where
+  inside : start ≤ end
+  within : end ≤ file
+  room : closesThen ≤ 16
+  less : (file - end) + (16 - closesThen) < (file - at) + (16 - closes)
+
+ahead : (c : tie.Joined1 Inv-loop μ-loop) → Ahead (length (now (c .before .before .before .before .before .before .before .before .before .before .before .args .file))) (c .before .before .loop .at) (c .before .before .loop .closes) (c .if1 .start) (c .if1 .end) (c .if1 .closes)
+ahead c =
+    ⊎-elim
+    (λ w. record { inside = omega arith; within = omega arith; room = omega arith; less = omega arith })
+    (λ w. record { inside = omega arith; within = omega arith; room = omega arith; less = omega arith })
+    (c .if1 .came)
 
 start-requires : tie.Need-start-requires Inv-loop μ-loop
 start-requires c κs = search needs
@@ -18,11 +35,8 @@ start-requires c κs = search needs
 loop-holds : tie.Need-loop-holds Inv-loop μ-loop
 loop-holds c = search needs
 
-sub-loop : tie.Need-sub-loop Inv-loop μ-loop
-sub-loop c = search needs
-
-add-start : tie.Need-add-start Inv-loop μ-loop
-add-start c = search needs
+sub-if1 : tie.Need-sub-if1 Inv-loop μ-loop
+sub-if1 c = search needs
 
 shared-slice-read-wide : tie.Need-shared-slice-read-wide Inv-loop μ-loop
 shared-slice-read-wide c = search needs
@@ -45,8 +59,23 @@ mul-n c = search needs
 add-n : tie.Need-add-n Inv-loop μ-loop
 add-n c = search needs
 
-sub-if1 : tie.Need-sub-if1 Inv-loop μ-loop
-sub-if1 c = search needs
+add-start : tie.Need-add-start Inv-loop μ-loop
+add-start c = search needs
+
+sub-if2 : tie.Need-sub-if2 Inv-loop μ-loop
+sub-if2 c = search needs
+
+loop-less : tie.Need-loop-less Inv-loop μ-loop
+loop-less c = search needs
+
+loop-again : tie.Need-loop-again Inv-loop μ-loop
+loop-again c = search needs
+
+add-end : tie.Need-add-end Inv-loop μ-loop
+add-end c = search needs
+
+find-open-requires : tie.Need-find-open-requires Inv-loop μ-loop
+find-open-requires c κs = search needs
 
 same-length : tie.Need-same-length Inv-loop μ-loop
 same-length c = search needs
@@ -57,32 +86,48 @@ same-length-2 c = search needs
 returns : tie.Need-returns Inv-loop μ-loop
 returns c = search needs
 
-add-end : tie.Need-add-end Inv-loop μ-loop
-add-end c = search needs
+add-closes : tie.Need-add-closes Inv-loop μ-loop
+add-closes c = search needs
 
-slice-aggregate-receive : tie.Need-slice-aggregate-receive Inv-loop μ-loop
-slice-aggregate-receive c = search needs
+sub-next-asked : tie.Need-sub-next-asked Inv-loop μ-loop
+sub-next-asked c = let a = ahead (c .before .before) in omega arith
 
-sub-receive : tie.Need-sub-receive Inv-loop μ-loop
-sub-receive c = search needs
+part-next-asked-start : tie.Need-part-next-asked-start Inv-loop μ-loop
+part-next-asked-start c = let a = ahead (c .before .before) in omega arith
 
-part-receive-start : tie.Need-part-receive-start Inv-loop μ-loop
-part-receive-start c = search needs
+part-next-asked-end : tie.Need-part-next-asked-end Inv-loop μ-loop
+part-next-asked-end c = let a = ahead (c .before .before) in omega arith
 
-part-receive-end : tie.Need-part-receive-end Inv-loop μ-loop
-part-receive-end c = search needs
+next-asked-requires : tie.Need-next-asked-requires Inv-loop μ-loop
+next-asked-requires c κs = search needs
 
-receive-requires : tie.Need-receive-requires Inv-loop μ-loop
-receive-requires c κs = search needs
+sub-step : tie.Need-sub-step Inv-loop μ-loop
+sub-step c = let a = ahead (c .before .before .before .before .before) in omega arith
+
+part-step-start : tie.Need-part-step-start Inv-loop μ-loop
+part-step-start c = let a = ahead (c .before .before .before .before .before) in omega arith
+
+part-step-end : tie.Need-part-step-end Inv-loop μ-loop
+part-step-end c = let a = ahead (c .before .before .before .before .before) in omega arith
+
+step-requires : tie.Need-step-requires Inv-loop μ-loop
+step-requires c κs = search needs
 
 tallied-requires : tie.Need-tallied-requires Inv-loop μ-loop
 tallied-requires c κs = search needs
 
-loop-less : tie.Need-loop-less Inv-loop μ-loop
-loop-less c = search needs
+loop-less-2 : tie.Need-loop-less-2 Inv-loop μ-loop
+loop-less-2 c = let at-asked = c .before .before .before .before .before .before in let a = ahead (at-asked .before .before .before .before .before .before .before .before) in a .less
 
-loop-again : tie.Need-loop-again Inv-loop μ-loop
-loop-again c = search needs
+loop-again-2 : tie.Need-loop-again-2 Inv-loop μ-loop
+loop-again-2 c =
+    let at-step = c .before .before .before .before .before .before in
+    let joined = at-step .before .before .before .before .before .before .before .before in
+    let a = ahead joined in
+    let inv = joined .before .before .loop .inv in
+    let back = c .before .before .before .before .before .store2 .given in
+    let replied = c .before .before .before .reply .given in
+    (a .within, a .room, search (needs, inv .2, back), search (needs, inv .2, replied))
 
 same-length-3 : tie.Need-same-length-3 Inv-loop μ-loop
 same-length-3 c = search needs
@@ -101,8 +146,7 @@ one-round-spec =
     μ-loop
     start-requires
     loop-holds
-    sub-loop
-    add-start
+    sub-if1
     shared-slice-read-wide
     wide-requires
     add-wide
@@ -110,19 +154,27 @@ one-round-spec =
     wide-requires-2
     mul-n
     add-n
-    sub-if1
+    add-start
+    sub-if2
+    loop-less
+    loop-again
+    add-end
+    find-open-requires
     same-length
     same-length-2
     returns
-    add-end
-    slice-aggregate-receive
-    sub-receive
-    part-receive-start
-    part-receive-end
-    receive-requires
+    add-closes
+    sub-next-asked
+    part-next-asked-start
+    part-next-asked-end
+    next-asked-requires
+    sub-step
+    part-step-start
+    part-step-end
+    step-requires
     tallied-requires
-    loop-less
-    loop-again
+    loop-less-2
+    loop-again-2
     same-length-3
     same-length-4
     returns-2)

@@ -3,14 +3,14 @@ use Prim.Native.Nat.{_≤_}
 use mathlib.Core.Path.{_≡_, refl}
 use lib.ListN.{length}
 use Rattle.paper.specs.Sizes.{STORE, REPLY-MIN}
-use Rattle.bench.specs.Tallies.{noPdus}
+use Rattle.bench.specs.Tallies.{noCalls}
 use borrow.Author.Needs.{needs}
 use native.Mathlib.Omega.{arith}
 use Rattle.bench.proofs.run.Statement.{statement}
 use Rattle.bench.proofs.run.Tie as tie
 
 abbrev Inv-loop : tie.InvT-loop
-Inv-loop rounds file store₀ reply₀ tally₀ left₀ store reply tally left = (left ≤ rounds) × (length store ≡ STORE) × (length reply ≡ REPLY-MIN) × (left ≡ rounds → tally ≡ noPdus)
+Inv-loop rounds file store₀ reply₀ tally₀ left₀ store reply tally left = (left ≤ rounds) × (length store ≡ STORE) × (length reply ≡ REPLY-MIN) × (left ≡ rounds → tally ≡ noCalls)
 
 abbrev μ-loop : tie.MeasureT-loop
 μ-loop rounds file store₀ reply₀ tally₀ left₀ store reply tally left = left

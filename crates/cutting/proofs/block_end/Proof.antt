@@ -7,19 +7,10 @@ use native.Mathlib.Omega.{arith}
 use Rattle.cutting.proofs.block_end.Statement.{statement}
 use Rattle.cutting.proofs.block_end.Tie as tie
 
-header-len-requires : tie.Need-header-len-requires
-header-len-requires c κs = search needs
-
 sub-room : tie.Need-sub-room
 sub-room c =
     let a = c .before .args in
     omega (arith, c .header-len .ensures, header-le (a .number) (a .total) (a .at))
-
-sub-lesser : tie.Need-sub-lesser
-sub-lesser c = search needs
-
-lesser-requires : tie.Need-lesser-requires
-lesser-requires c κs = search needs
 
 add-result : tie.Need-add-result
 unfolding MESSAGE-MAX
@@ -31,4 +22,6 @@ returns c = simp (c .lesser .ensures, c .before .header-len .ensures)
 
 pub block-end-spec : {M : Type 1} → statement M
 block-end-spec =
-    tie.close (tie.spec header-len-requires sub-room sub-lesser lesser-requires add-result returns)
+    tie.close
+    (tie.spec
+    (λ c κs. search needs) sub-room (λ c. search needs) (λ c κs. search needs) add-result returns)

@@ -35,16 +35,17 @@ lay-requires c κs =
     let met = sym (c .before .before .is-start .ensures) ∙ not-false _ (c .before .if3 .left) in
     (c .before .before .before .if2 .left, start-within (a .number) (length (now (a .message))) (a .offset) met)
 
-same-length : tie.Need-same-length
-same-length c = search needs
-
 returns-4 : tie.Need-returns-4
 unfolding PDU-MAX MESSAGE-MAX
 returns-4 c =
-    let met = sym (c .before .before .before .before .before .is-start .ensures) ∙ not-false _ (c .before .before .before .before .if3 .left) in
-    lays _ _ _ _ (c .before .before .before .before .before .before .before .if1 .left) (c .before .before .before .before .before .before .if2 .left) met (c .before .before .lay .ensures .0) (c .before .before .lay .ensures .1)
+    let met = sym (c .before .before .before .before .before .is-start .ensures) ∙ not-false _
+    (c .before .before .before .before .if3 .left) in
+    lays _ _ _ _ (c .before .before .before .before .before .before .before .if1 .left)
+    (c .before .before .before .before .before .before .if2 .left) met (c .before .before .lay .ensures .0)
+    (c .before .before .lay .ensures .1)
 
 pub cut-spec : {M : Type 1} → statement M
 cut-spec =
     tie.close
-    (tie.spec returns returns-2 is-start-requires returns-3 lay-requires same-length returns-4)
+    (tie.spec
+    returns returns-2 is-start-requires returns-3 lay-requires (λ c. search needs) returns-4)

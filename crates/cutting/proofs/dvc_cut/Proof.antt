@@ -11,16 +11,14 @@ use Rattle.cutting.proofs.dvc_cut.Statement.{statement}
 use Rattle.cutting.proofs.dvc_cut.Tie as tie
 
 -- what the PDU's length and the next offset are at most
-sizes : (c : tie.After-known-told) → (2 ≤ c .before .piece .given .0 .0) × ((c .before .piece .given .0 .0 ≤ PDU-MAX) × (c .before .piece .given .0 .1 .0 ≤ MESSAGE-MAX))
+sizes : (c : tie.After-known-told)
+    → (2 ≤ c .before .piece .given .0 .0)
+    × ((c .before .piece .given .0 .0 ≤ PDU-MAX) × (c .before .piece .given .0 .1 .0 ≤ MESSAGE-MAX))
 sizes c =
-    let a = c .before .before .before .before .before .before .before .before .before .args in
-    subst Possible (sym (c .before .before .before .before .before .cut .ensures .0) ∙ c .before .piece .given .1) (possible (a .number) (now (a .message)) (a .offset) (now (a .out)))
-
-cut-requires : tie.Need-cut-requires
-cut-requires c κs = search needs
-
-enum-known-piece : tie.Need-enum-known-piece
-enum-known-piece c = search needs
+    let cut = c .before .before .before .before .before in
+    let a = cut .before .before .before .before .args in
+    subst Possible (sym (c .before .before .before .before .before .cut .ensures .0) ∙ c .before .piece .given .1)
+    (possible (a .number) (now (a .message)) (a .offset) (now (a .out)))
 
 cast-result : tie.Need-cast-result
 unfolding PDU-MAX MESSAGE-MAX
@@ -38,26 +36,11 @@ add-result : tie.Need-add-result
 unfolding PDU-MAX MESSAGE-MAX
 add-result c = omega (arith, sizes c)
 
-enum-known-piece-2 : tie.Need-enum-known-piece-2
-enum-known-piece-2 c = search needs
-
-number-requires : tie.Need-number-requires
-number-requires c κs = search needs
-
-cast-result-3 : tie.Need-cast-result-3
-cast-result-3 c = search needs
-
-same-length : tie.Need-same-length
-same-length c = search needs
-
 returns : tie.Need-returns
 unfolding packed LENGTH-UNIT
 returns c =
     let cut = c .before .before .before .before .before .cut .ensures in
     (sym (ap packed (sym (cut .0) ∙ c .before .piece .given .1)), cut .1)
-
-same-length-2 : tie.Need-same-length-2
-same-length-2 c = search needs
 
 returns-2 : tie.Need-returns-2
 unfolding packed
@@ -69,16 +52,5 @@ pub dvc-cut-spec : {M : Type 1} → statement M
 dvc-cut-spec =
     tie.close
     (tie.spec
-    cut-requires
-    enum-known-piece
-    cast-result
-    mul-result
-    cast-result-2
-    add-result
-    enum-known-piece-2
-    number-requires
-    cast-result-3
-    same-length
-    returns
-    same-length-2
-    returns-2)
+    (λ c κs. search needs) (λ c. search needs) cast-result mul-result cast-result-2 add-result (λ c. search needs)
+    (λ c κs. search needs) (λ c. search needs) (λ c. search needs) returns (λ c. search needs) returns-2)

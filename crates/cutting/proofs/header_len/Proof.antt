@@ -8,30 +8,31 @@ use native.Mathlib.Omega.{arith}
 use Rattle.cutting.proofs.header_len.Statement.{statement}
 use Rattle.cutting.proofs.header_len.Tie as tie
 
-narrow-requires : tie.Need-narrow-requires
-narrow-requires c κs = search needs
-
 add-header : tie.Need-add-header
 add-header c = omega (arith, c .narrow .ensures, narrowest-le (c .before .args .number))
-
-is-first-requires : tie.Need-is-first-requires
-is-first-requires c κs = search needs
 
 cast-narrow : tie.Need-cast-narrow
 unfolding MESSAGE-MAX
 cast-narrow c = search needs
 
-narrow-requires-2 : tie.Need-narrow-requires-2
-narrow-requires-2 c κs = search needs
-
 add-result : tie.Need-add-result
 add-result c =
-    omega (arith, c .before .before .before .narrow .ensures, c .narrow2 .ensures, narrowest-le (c .before .before .before .before .args .number), narrowest-le (c .before .before .before .before .args .total))
+    omega (
+      arith,
+      c .before .before .before .narrow .ensures,
+      c .narrow2 .ensures,
+      narrowest-le (c .before .before .before .before .args .number),
+      narrowest-le (c .before .before .before .before .args .total),
+    )
 
 returns : tie.Need-returns
 unfolding headerLen
 returns c =
-    simp (sym (c .before .before .is-first .ensures) ∙ c .before .if1 .taken, c .before .before .before .narrow .ensures, c .narrow2 .ensures)
+    simp (
+      sym (c .before .before .is-first .ensures) ∙ c .before .if1 .taken,
+      c .before .before .before .narrow .ensures,
+      c .narrow2 .ensures,
+    )
 
 returns-2 : tie.Need-returns-2
 unfolding headerLen
@@ -41,11 +42,5 @@ pub header-len-spec : {M : Type 1} → statement M
 header-len-spec =
     tie.close
     (tie.spec
-    narrow-requires
-    add-header
-    is-first-requires
-    cast-narrow
-    narrow-requires-2
-    add-result
-    returns
+    (λ c κs. search needs) add-header (λ c κs. search needs) cast-narrow (λ c κs. search needs) add-result returns
     returns-2)

@@ -6,15 +6,12 @@ use borrow.Author.Needs.{needs}
 use Rattle.laying.proofs.capabilities_response.Statement.{statement}
 use Rattle.laying.proofs.capabilities_response.Tie as tie
 
-caps-head-requires : tie.Need-caps-head-requires
-caps-head-requires c κs = search needs
-
-same-length : tie.Need-same-length
-same-length c = search needs
-
 returns : tie.Need-returns
 unfolding capsResponseBytes
 returns c = (sym (length-caps-head _), c .before .before .caps-head .ensures)
 
 pub capabilities-response-spec : {M : Type 1} → statement M
-capabilities-response-spec = tie.close (tie.spec caps-head-requires same-length returns)
+capabilities-response-spec =
+    tie.close
+    (tie.spec
+    (λ c κs. search needs) (λ c. search needs) returns)

@@ -4,15 +4,12 @@ use borrow.Author.Needs.{needs}
 use Rattle.laying.proofs.close.Statement.{statement}
 use Rattle.laying.proofs.close.Tie as tie
 
-head-requires : tie.Need-head-requires
-head-requires c κs = search needs
-
-same-length : tie.Need-same-length
-same-length c = search needs
-
 returns : tie.Need-returns
 unfolding closeBytes
 returns c = c .before .before .head .ensures
 
 pub close-spec : {M : Type 1} → statement M
-close-spec = tie.close (tie.spec head-requires same-length returns)
+close-spec =
+    tie.close
+    (tie.spec
+    (λ c κs. search needs) (λ c. search needs) returns)

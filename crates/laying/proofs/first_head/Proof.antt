@@ -18,12 +18,12 @@ code-requires c κs = search needs
 head-requires : tie.Need-head-requires
 head-requires c κs = search needs
 
-number-requires : tie.Need-number-requires
-number-requires c κs = search needs
+narrowed-requires : tie.Need-narrowed-requires
+narrowed-requires c κs = search needs
 
 add-result : tie.Need-add-result
 add-result c =
-    omega (arith, c .before .before .before .before .before .before .head .ensures .0, head-le DATA-FIRST (c .before .before .before .before .before .before .before .code .result) (c .before .before .before .before .before .before .before .before .before .before .args .number), c .before .before .number .ensures .0, length-narrow (c .before .before .before .before .before .before .before .before .before .before .args .length), narrowest-le (c .before .before .before .before .before .before .before .before .before .before .args .length))
+    omega (arith, c .before .before .before .before .before .before .head .ensures .0, head-le DATA-FIRST (c .before .before .before .before .before .before .before .code .result) (c .before .before .before .before .before .before .before .before .before .before .args .number), c .before .before .narrowed .ensures .0, length-narrow (c .before .before .before .before .before .before .before .before .before .before .args .length), narrowest-le (c .before .before .before .before .before .before .before .before .before .before .args .length))
 
 same-length : tie.Need-same-length
 same-length c = search needs
@@ -33,8 +33,8 @@ unfolding dataFirstHead
 returns c =
     let a = c .before .before .before .before .before .before .before .before .before .before .args in
     let h = rw (c .before .before .before .before .before .before .before .code .ensures) at (c .before .before .before .before .before .before .head .ensures) in
-    (simp (length-append, h .0, c .before .before .number .ensures .0), laid-next (now (a .out)) _ _ (headOf DATA-FIRST (codeFor (a .length)) (a .number)) (narrowBytes (a .length)) _ (h .0) (h .1) (c .before .before .number .ensures .1))
+    (simp (length-append, h .0, c .before .before .narrowed .ensures .0), laid-next (now (a .out)) _ _ (headOf DATA-FIRST (codeFor (a .length)) (a .number)) (narrowBytes (a .length)) _ (h .0) (h .1) (c .before .before .narrowed .ensures .1))
 
 pub first-head-spec : {M : Type 1} → statement M
 first-head-spec =
-    tie.close (tie.spec code-requires head-requires number-requires add-result same-length returns)
+    tie.close (tie.spec code-requires head-requires narrowed-requires add-result same-length returns)

@@ -34,12 +34,12 @@ slice-aggregate-copy c = search needs
 copy-requires : tie.Need-copy-requires
 copy-requires c κs = search needs
 
-number-requires : tie.Need-number-requires
-number-requires c κs = search needs
+narrowed-requires : tie.Need-narrowed-requires
+narrowed-requires c κs = search needs
 
 add-result : tie.Need-add-result
 add-result c =
-    omega (arith, c .before .before .number .ensures .0, length-narrow (c .before .before .before .before .before .before .before .before .before .before .before .args .number), narrowest-le (c .before .before .before .before .before .before .before .before .before .before .before .args .number))
+    omega (arith, c .before .before .narrowed .ensures .0, length-narrow (c .before .before .before .before .before .before .before .before .before .before .before .args .number), narrowest-le (c .before .before .before .before .before .before .before .before .before .before .before .args .number))
 
 same-length : tie.Need-same-length
 same-length c = search needs
@@ -50,7 +50,7 @@ returns c =
     let a = c .before .before .before .before .before .before .before .before .before .before .before .args in
     let first = 16 * (a .cmd % 16) + 4 * (a .middle % 4) + codeFor (a .number) in
     let laid-first = c .before .before .before .before .before .before .copy .ensures ∙ ap (λ (code : ℕ). laid (now (a .out)) 0 ((16 * (a .cmd % 16) + 4 * (a .middle % 4) + code) ∷ [])) (c .before .before .before .before .before .before .before .before .before .code .ensures) in
-    (ap (λ (n : ℕ). 1 + n) (c .before .before .number .ensures .0) ∙ omega arith, laid-next (now (a .out)) _ _ (first ∷ []) (narrowBytes (a .number)) 1 refl laid-first (c .before .before .number .ensures .1))
+    (ap (λ (n : ℕ). 1 + n) (c .before .before .narrowed .ensures .0) ∙ omega arith, laid-next (now (a .out)) _ _ (first ∷ []) (narrowBytes (a .number)) 1 refl laid-first (c .before .before .narrowed .ensures .1))
 
 pub head-spec : {M : Type 1} → statement M
 head-spec =
@@ -63,7 +63,7 @@ head-spec =
     add-t12
     slice-aggregate-copy
     copy-requires
-    number-requires
+    narrowed-requires
     add-result
     same-length
     returns)

@@ -8,16 +8,13 @@ use native.Mathlib.Omega.{arith}
 use Rattle.laying.proofs.short.Statement.{statement}
 use Rattle.laying.proofs.short.Tie as tie
 
-put-requires : tie.Need-put-requires
-put-requires c κs = search needs
-
-same-length : tie.Need-same-length
-same-length c = search needs
-
 returns : tie.Need-returns
 returns c =
     let a = c .before .before .before .before .before .args in
     c .before .before .put .ensures ∙ ap (laid (now (a .out)) (a .at)) (low-bytes 2 4 (a .value) (omega arith))
 
 pub short-spec : {M : Type 1} → statement M
-short-spec = tie.close (tie.spec put-requires same-length returns)
+short-spec =
+    tie.close
+    (tie.spec
+    (λ c κs. search needs) (λ c. search needs) returns)

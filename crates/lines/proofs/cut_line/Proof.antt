@@ -9,31 +9,28 @@ use native.Mathlib.Omega.{arith}
 use Rattle.lines.proofs.cut_line.Statement.{statement}
 use Rattle.lines.proofs.cut_line.Tie as tie
 
-number-requires : tie.Need-number-requires
-number-requires c κs = search needs
-
-slice-aggregate-text : tie.Need-slice-aggregate-text
-slice-aggregate-text c = search needs
-
-text-requires : tie.Need-text-requires
-text-requires c κs = search needs
-
 add-result : tie.Need-add-result
 add-result c =
-    omega (arith, c .before .before .before .before .before .before .before .number .ensures .0 .1, c .before .before .text .ensures .0)
-
-same-length : tie.Need-same-length
-same-length c = search needs
+    omega (
+      arith,
+      c .before .before .before .before .before .before .before .number .ensures .0 .1,
+      c .before .before .text .ensures .0,
+    )
 
 returns : tie.Need-returns
 unfolding cutLineOf
 returns c =
-    let a = c .before .before .before .before .before .before .before .before .before .before .args in
-    let placed = c .before .before .before .before .before .before .before .number .ensures in
-    let worded = c .before .before .text .ensures in
-    ((ends (field (a .place) SPACE) _ (placed .0 .0) (worded .0), omega (arith, placed .0 .1, worded .0)), laid-next (now (a .out)) _ _ (field (a .place) SPACE) _ _ (placed .0 .0) (placed .1) (worded .1))
+    let at-number = c .before .before .before .before .before .before .before in
+    let start = at-number .before .before .before in
+    let a = start .args in
+    let placed = at-number .number .ensures in
+    let worded = c .before .before .text .ensures in (
+      (ends (field (a .place) SPACE) _ (placed .0 .0) (worded .0), omega (arith, placed .0 .1, worded .0)),
+      laid-next (now (a .out)) _ _ (field (a .place) SPACE) _ _ (placed .0 .0) (placed .1) (worded .1),
+    )
 
 pub cut-line-spec : {M : Type 1} → statement M
 cut-line-spec =
     tie.close
-    (tie.spec number-requires slice-aggregate-text text-requires add-result same-length returns)
+    (tie.spec
+    (λ c κs. search needs) (λ c. search needs) (λ c κs. search needs) add-result (λ c. search needs) returns)

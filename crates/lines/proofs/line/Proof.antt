@@ -1,70 +1,73 @@
 -- `lines::line` meets its contract: each field is laid behind the one before.
 use mathlib.Core.List.{_++_}
+use Prim.Native.Nat.{_+_, _≤_}
 use denote.Ref.{now}
 use Rattle.channel.specs.Answers.{wordOf, concernOf, numberOf}
 use Rattle.lists.proofs.Laid.{laid-next}
-use Rattle.lines.specs.Decimal.{field}
-use Rattle.lines.specs.Lines.{SPACE, LF, wordField, channelField, lineOf}
+use Rattle.lines.specs.Decimal.{FIELD-MAX, field}
+use Rattle.lines.specs.Lines.{WORD-MAX, SPACE, LF, wordField, channelField, lineOf}
 use Rattle.lines.proofs.Ends.{ends}
 use borrow.Author.Needs.{needs}
 use native.Mathlib.Omega.{arith}
 use Rattle.lines.proofs.line.Statement.{statement}
 use Rattle.lines.proofs.line.Tie as tie
 
-number-requires : tie.Need-number-requires
-number-requires c κs = search needs
+-- how long the line is at most, field by field
+worded : (c : tie.After-word) → c .before .before .before .before .number .result + c .word .result ≤ FIELD-MAX + WORD-MAX
+worded c = omega (arith, c .before .before .before .before .number .ensures .0 .1, c .word .ensures .0 .1)
 
-word-requires : tie.Need-word-requires
-word-requires c κs = search needs
+concerned : (c : tie.After-channel) → c .channel .result ≤ FIELD-MAX
+concerned c = c .channel .ensures .0 .1
+
+valued : (c : tie.After-number2) → c .number2 .result ≤ FIELD-MAX
+valued c = c .number2 .ensures .0 .1
+
+-- the places of the fields, each from the one behind it
+abbrev word-of : tie.After-channel → tie.After-word
+word-of c = c .before .before .before .before .before
+
+abbrev channel-of : tie.After-number2 → tie.After-channel
+channel-of c = c .before .before .before .before .before
 
 add-worded : tie.Need-add-worded
-add-worded c =
-    omega (arith, c .before .before .before .before .before .before .number .ensures .0 .1, c .before .before .word .ensures .0 .1)
-
-concern-requires : tie.Need-concern-requires
-concern-requires c κs = search needs
-
-channel-requires : tie.Need-channel-requires
-channel-requires c κs = search needs
+add-worded c = omega (arith, worded (c .before .before))
 
 add-concerned : tie.Need-add-concerned
-add-concerned c =
-    omega (arith, c .before .before .before .before .before .before .before .before .before .before .before .number .ensures .0 .1, c .before .before .before .before .before .before .before .word .ensures .0 .1, c .before .before .channel .ensures .0 .1)
-
-value-requires : tie.Need-value-requires
-value-requires c κs = search needs
-
-number-requires-2 : tie.Need-number-requires-2
-number-requires-2 c κs = search needs
+add-concerned c = omega (arith, worded (word-of (c .before .before)), concerned (c .before .before))
 
 add-valued : tie.Need-add-valued
 add-valued c =
-    omega (arith, c .before .before .before .before .before .before .before .before .before .before .before .before .before .before .before .before .number .ensures .0 .1, c .before .before .before .before .before .before .before .before .before .before .before .before .word .ensures .0 .1, c .before .before .before .before .before .before .before .channel .ensures .0 .1, c .before .before .number2 .ensures .0 .1)
-
-number-requires-3 : tie.Need-number-requires-3
-number-requires-3 c κs = search needs
+    let channel = channel-of (c .before .before) in
+    omega (arith, worded (word-of channel), concerned channel, valued (c .before .before))
 
 add-result : tie.Need-add-result
 add-result c =
-    omega (arith, c .before .before .before .before .before .before .before .before .before .before .before .before .before .before .before .before .before .before .before .before .number .ensures .0 .1, c .before .before .before .before .before .before .before .before .before .before .before .before .before .before .before .before .word .ensures .0 .1, c .before .before .before .before .before .before .before .before .before .before .before .channel .ensures .0 .1, c .before .before .before .before .before .before .number2 .ensures .0 .1, c .before .before .number3 .ensures .0 .1)
-
-same-length : tie.Need-same-length
-same-length c = search needs
+    let number2 = c .before .before .before .before .before .before in
+    let channel = channel-of number2 in
+    let last = c .before .before .number3 .ensures .0 .1 in
+    omega (arith, worded (word-of channel), concerned channel, valued number2, last)
 
 returns : tie.Need-returns
 unfolding lineOf
 returns c =
-    let a = c .before .before .before .before .before .before .before .before .before .before .before .before .before .before .before .before .before .before .before .before .before .before .before .args in
+    let at-number2 = c .before .before .before .before .before .before in
+    let at-value = at-number2 .before in
+    let at-channel = at-value .before .before .before .before in
+    let at-concern = at-channel .before in
+    let at-word = at-concern .before .before .before .before in
+    let at-number = at-word .before .before .before .before in
+    let start = at-number .before .before .before in
+    let a = start .args in
     let out = now (a .out) in
     let f1 = field (a .place) SPACE in
     let f2 = wordField (wordOf (a .answer)) in
     let f3 = channelField (concernOf (a .answer)) in
     let f4 = field (numberOf (a .answer)) SPACE in
     let f5 = field (a .sent) LF in
-    let p1 = c .before .before .before .before .before .before .before .before .before .before .before .before .before .before .before .before .before .before .before .before .number .ensures in
-    let p2 = c .before .before .before .before .before .before .before .before .before .before .before .before .before .before .before .before .word .ensures in
-    let p3 = rw (c .before .before .before .before .before .before .before .before .before .before .before .before .concern .ensures) at (c .before .before .before .before .before .before .before .before .before .before .before .channel .ensures) in
-    let p4 = rw (c .before .before .before .before .before .before .before .value .ensures) at (c .before .before .before .before .before .before .number2 .ensures) in
+    let p1 = at-number .number .ensures in
+    let p2 = at-word .word .ensures in
+    let p3 = rw (at-concern .concerns .ensures) at (at-channel .channel .ensures) in
+    let p4 = rw (at-value .value .ensures) at (at-number2 .number2 .ensures) in
     let p5 = c .before .before .number3 .ensures in
     let n2 = ends f1 f2 (p1 .0 .0) (p2 .0 .0) in
     let n3 = ends (f1 ++ f2) f3 n2 (p3 .0 .0) in
@@ -80,16 +83,6 @@ pub line-spec : {M : Type 1} → statement M
 line-spec =
     tie.close
     (tie.spec
-    number-requires
-    word-requires
-    add-worded
-    concern-requires
-    channel-requires
-    add-concerned
-    value-requires
-    number-requires-2
-    add-valued
-    number-requires-3
-    add-result
-    same-length
-    returns)
+    (λ c κs. search needs) (λ c κs. search needs) add-worded (λ c κs. search needs) (λ c κs. search needs)
+    add-concerned (λ c κs. search needs) (λ c κs. search needs) add-valued (λ c κs. search needs) add-result
+    (λ c. search needs) returns)

@@ -1,5 +1,5 @@
--- `lines::spelled` meets its contract. The digits of what is left, with those that stand in the scratch behind them, are always the
--- whole field; what is left fits the places in front.
+-- `lines::spelled` meets its contract. The digits of what is left, with those that stand in the scratch
+-- behind them, are always the whole field; what is left fits the places in front.
 use mathlib.Core.Path.{_≡_, refl, sym, _∙_}
 use mathlib.Core.List.{_++_, [], _∷_, append-assoc}
 use Prim.Native.Nat.{_+_, _-_, _^_, _≤_, _<_, _/_, _%_}
@@ -11,19 +11,11 @@ use Rattle.lines.proofs.spelled.Statement.{statement}
 use Rattle.lines.proofs.spelled.Tie as tie
 
 abbrev Inv-loop : tie.InvT-loop
-Inv-loop n end bytes₀ i₀ rest₀ bytes i rest = (1 ≤ i) × (i ≤ 20) × (length bytes ≡ 21) × (rest < 10 ^ i) × (decimal rest ++ drop i bytes ≡ field n end)
+Inv-loop n end bytes₀ i₀ rest₀ bytes i rest =
+    (1 ≤ i) × (i ≤ 20) × (length bytes ≡ 21) × (rest < 10 ^ i) × (decimal rest ++ drop i bytes ≡ field n end)
 
 abbrev μ-loop : tie.MeasureT-loop
 μ-loop n end bytes₀ i₀ rest₀ bytes i rest = rest
-
-sub-bytes : tie.Need-sub-bytes Inv-loop μ-loop
-sub-bytes c = omega arith
-
-array-write-bytes : tie.Need-array-write-bytes Inv-loop μ-loop
-array-write-bytes c = omega arith
-
-sub-i : tie.Need-sub-i Inv-loop μ-loop
-sub-i c = omega arith
 
 loop-holds : tie.Need-loop-holds Inv-loop μ-loop
 unfolding field
@@ -34,19 +26,10 @@ sub-i-2 c =
     let l = c .before .loop in
     omega (arith, tenth (l .rest) (l .i) (c .loop-test .taken) (l .inv .3) .0)
 
-cast-bytes : tie.Need-cast-bytes Inv-loop μ-loop
-cast-bytes c = omega arith
-
-add-bytes : tie.Need-add-bytes Inv-loop μ-loop
-add-bytes c = omega arith
-
 array-write-bytes-2 : tie.Need-array-write-bytes-2 Inv-loop μ-loop
 array-write-bytes-2 c =
     let l = c .before .loop in
     omega (arith, l .inv .2)
-
-loop-less : tie.Need-loop-less Inv-loop μ-loop
-loop-less c = omega arith
 
 loop-again : tie.Need-loop-again Inv-loop μ-loop
 loop-again c =
@@ -54,20 +37,14 @@ loop-again c =
     let less = tenth (l .rest) (l .i) (c .loop-test .taken) (l .inv .3) in
     let put = drop-set (l .bytes) (l .i - 1) (48 + l .rest % 10) (omega arith) in
     let back : l .i - 1 + 1 ≡ l .i = omega arith in
-    let more = decimal-more (l .rest) (omega arith) in
-    (omega arith, omega arith, simp length-set (l .inv .2), less .1, rw (put, back) (sym (append-assoc (decimal (l .rest / 10)) (digit (l .rest % 10) ∷ []) (drop (l .i) (l .bytes))) ∙ rw (← more) (l .inv .4)))
-
-sub-i-3 : tie.Need-sub-i-3 Inv-loop μ-loop
-sub-i-3 c = omega arith
-
-cast-bytes-2 : tie.Need-cast-bytes-2 Inv-loop μ-loop
-cast-bytes-2 c = omega arith
-
-add-bytes-2 : tie.Need-add-bytes-2 Inv-loop μ-loop
-add-bytes-2 c = omega arith
-
-array-write-bytes-3 : tie.Need-array-write-bytes-3 Inv-loop μ-loop
-array-write-bytes-3 c = omega arith
+    let more = decimal-more (l .rest) (omega arith) in (
+      omega arith,
+      omega arith,
+      simp length-set (l .inv .2),
+      less .1,
+      rw (put, back) (sym (append-assoc (decimal (l .rest / 10)) (digit (l .rest % 10) ∷ [])
+          (drop (l .i) (l .bytes))) ∙ rw (← more) (l .inv .4)),
+    )
 
 returns : tie.Need-returns Inv-loop μ-loop
 returns c =
@@ -81,20 +58,6 @@ pub spelled-spec : {M : Type 1} → statement M
 spelled-spec =
     tie.close
     (tie.spec
-    Inv-loop
-    μ-loop
-    sub-bytes
-    array-write-bytes
-    sub-i
-    loop-holds
-    sub-i-2
-    cast-bytes
-    add-bytes
-    array-write-bytes-2
-    loop-less
-    loop-again
-    sub-i-3
-    cast-bytes-2
-    add-bytes-2
-    array-write-bytes-3
-    returns)
+    Inv-loop μ-loop (λ c. omega arith) (λ c. omega arith) (λ c. omega arith) loop-holds sub-i-2 (λ c. omega arith)
+    (λ c. omega arith) array-write-bytes-2 (λ c. omega arith) loop-again (λ c. omega arith) (λ c. omega arith)
+    (λ c. omega arith) (λ c. omega arith) returns)

@@ -1,5 +1,5 @@
--- `listeners::good` meets its contract. What stands before the place is names with their zeros, so the bytes from there on
--- decide.
+-- `listeners::good` meets its contract. What stands before the place is names
+-- with their zeros, so the bytes from there on decide.
 use mathlib.Core.Path.{_≡_, sym, _∙_}
 use Prim.Native.Nat.{_≤_, _-_}
 use lib.ListN.{length, drop}
@@ -26,39 +26,15 @@ loop-holds : tie.Need-loop-holds Inv-loop μ-loop
 unfolding LIST-MAX
 loop-holds c = (omega arith, good-all _ (omega arith))
 
-sub-first-zero : tie.Need-sub-first-zero Inv-loop μ-loop
-sub-first-zero c = search needs
-
-part-first-zero-start : tie.Need-part-first-zero-start Inv-loop μ-loop
-part-first-zero-start c = search needs
-
-part-first-zero-end : tie.Need-part-first-zero-end Inv-loop μ-loop
-part-first-zero-end c = search needs
-
-first-zero-requires : tie.Need-first-zero-requires Inv-loop μ-loop
-first-zero-requires c κs = search needs
-
 returns-2 : tie.Need-returns-2 Inv-loop μ-loop
 returns-2 c =
     let l = c .before .before .before .before .loop in
     sym (l .inv .1 ∙ good-empty _ (l .at) _ (c .before .first-zero .ensures) (omega arith) (omega arith))
 
-sub-if3 : tie.Need-sub-if3 Inv-loop μ-loop
-sub-if3 c = search needs
-
 returns-3 : tie.Need-returns-3 Inv-loop μ-loop
 returns-3 c =
     let l = c .before .before .before .before .before .loop in
     sym (l .inv .1 ∙ good-unended _ (l .at) _ (c .before .before .first-zero .ensures) (omega arith) (omega arith))
-
-add-at : tie.Need-add-at Inv-loop μ-loop
-add-at c = search needs
-
-add-at-2 : tie.Need-add-at-2 Inv-loop μ-loop
-add-at-2 c = search needs
-
-loop-less : tie.Need-loop-less Inv-loop μ-loop
-loop-less c = search needs
 
 loop-again : tie.Need-loop-again Inv-loop μ-loop
 loop-again c =
@@ -74,19 +50,6 @@ pub good-spec : {M : Type 1} → statement M
 good-spec =
     tie.close
     (tie.spec
-    Inv-loop
-    μ-loop
-    returns
-    loop-holds
-    sub-first-zero
-    part-first-zero-start
-    part-first-zero-end
-    first-zero-requires
-    returns-2
-    sub-if3
-    returns-3
-    add-at
-    add-at-2
-    loop-less
-    loop-again
-    returns-4)
+    Inv-loop μ-loop returns loop-holds (λ c. search needs) (λ c. search needs) (λ c. search needs)
+    (λ c κs. search needs) returns-2 (λ c. search needs) returns-3 (λ c. search needs) (λ c. search needs)
+    (λ c. search needs) loop-again returns-4)

@@ -1,4 +1,5 @@
--- `listeners::listed` meets its contract. No name before the place is the one that is asked for, so those from there on decide.
+-- `listeners::listed` meets its contract. No name before the place is the one
+-- that is asked for, so those from there on decide.
 use mathlib.Core.Path.{_≡_, sym, _∙_}
 use Prim.Native.Nat.{_≤_, _-_}
 use lib.ListN.{length, drop}
@@ -22,40 +23,10 @@ returns c = sym (empty-unlisted _ _ (omega arith))
 loop-holds : tie.Need-loop-holds Inv-loop μ-loop
 loop-holds c = (omega arith, listed-names _ _ (omega arith))
 
-sub-first-zero : tie.Need-sub-first-zero Inv-loop μ-loop
-sub-first-zero c = search needs
-
-part-first-zero-start : tie.Need-part-first-zero-start Inv-loop μ-loop
-part-first-zero-start c = search needs
-
-part-first-zero-end : tie.Need-part-first-zero-end Inv-loop μ-loop
-part-first-zero-end c = search needs
-
-first-zero-requires : tie.Need-first-zero-requires Inv-loop μ-loop
-first-zero-requires c κs = search needs
-
-sub-if2 : tie.Need-sub-if2 Inv-loop μ-loop
-sub-if2 c = search needs
-
 returns-2 : tie.Need-returns-2 Inv-loop μ-loop
 returns-2 c =
     let l = c .before .before .before .before .loop in
     sym (l .inv .1 ∙ one-unended _ (l .at) _ (c .before .first-zero .ensures) _ (omega arith))
-
-add-same : tie.Need-add-same Inv-loop μ-loop
-add-same c = search needs
-
-sub-same : tie.Need-sub-same Inv-loop μ-loop
-sub-same c = search needs
-
-part-same-start : tie.Need-part-same-start Inv-loop μ-loop
-part-same-start c = search needs
-
-part-same-end : tie.Need-part-same-end Inv-loop μ-loop
-part-same-end c = search needs
-
-same-requires : tie.Need-same-requires Inv-loop μ-loop
-same-requires c κs = search needs
 
 returns-3 : tie.Need-returns-3 Inv-loop μ-loop
 returns-3 c =
@@ -63,15 +34,6 @@ returns-3 c =
     let first = c .before .before .before .before .first-zero .ensures in
     let matches = sym (c .before .same .ensures) ∙ c .if3 .taken in
     sym (l .inv .1 ∙ one-here _ (l .at) _ first _ (omega arith) matches)
-
-add-at : tie.Need-add-at Inv-loop μ-loop
-add-at c = search needs
-
-add-at-2 : tie.Need-add-at-2 Inv-loop μ-loop
-add-at-2 c = search needs
-
-loop-less : tie.Need-loop-less Inv-loop μ-loop
-loop-less c = search needs
 
 loop-again : tie.Need-loop-again Inv-loop μ-loop
 loop-again c =
@@ -89,24 +51,7 @@ pub listed-spec : {M : Type 1} → statement M
 listed-spec =
     tie.close
     (tie.spec
-    Inv-loop
-    μ-loop
-    returns
-    loop-holds
-    sub-first-zero
-    part-first-zero-start
-    part-first-zero-end
-    first-zero-requires
-    sub-if2
-    returns-2
-    add-same
-    sub-same
-    part-same-start
-    part-same-end
-    same-requires
-    returns-3
-    add-at
-    add-at-2
-    loop-less
-    loop-again
-    returns-4)
+    Inv-loop μ-loop returns loop-holds (λ c. search needs) (λ c. search needs) (λ c. search needs)
+    (λ c κs. search needs) (λ c. search needs) returns-2 (λ c. search needs) (λ c. search needs) (λ c. search needs)
+    (λ c. search needs) (λ c κs. search needs) returns-3 (λ c. search needs) (λ c. search needs) (λ c. search needs)
+    loop-again returns-4)

@@ -1,5 +1,5 @@
--- `lists::copy` meets its contract. What is laid so far, with the rest of the block still to be laid, is always the whole
--- block laid; at the end of either slice nothing more would be laid.
+-- `lists::copy` meets its contract. What is laid so far, with the rest of the block still to be laid, is
+-- always the whole block laid; at the end of either slice nothing more would be laid.
 use mathlib.Core.Path.{_≡_, refl, sym, _∙_}
 use Prim.Native.Nat.{_-_, min}
 use lib.ListN.{length, drop, length-set}
@@ -11,28 +11,15 @@ use Rattle.lists.proofs.copy.Statement.{statement}
 use Rattle.lists.proofs.copy.Tie as tie
 
 abbrev Inv-loop : tie.InvT-loop
-Inv-loop part₀ block n i₀ part i = (length part ≡ length part₀) × (n ≡ min (length part₀) (length block)) × (laid part i (drop i block) ≡ laid part₀ 0 block)
+Inv-loop part₀ block n i₀ part i =
+    (length part ≡ length part₀) × (n ≡ min (length part₀) (length block))
+    × (laid part i (drop i block) ≡ laid part₀ 0 block)
 
 abbrev μ-loop : tie.MeasureT-loop
 μ-loop part₀ block n i₀ part i = n - i
 
-lesser-requires : tie.Need-lesser-requires Inv-loop μ-loop
-lesser-requires c κs = search needs
-
 loop-holds : tie.Need-loop-holds Inv-loop μ-loop
 loop-holds c = (refl, c .lesser .ensures, refl)
-
-shared-slice-read-part : tie.Need-shared-slice-read-part Inv-loop μ-loop
-shared-slice-read-part c = omega arith
-
-slice-write-part : tie.Need-slice-write-part Inv-loop μ-loop
-slice-write-part c = omega arith
-
-add-i : tie.Need-add-i Inv-loop μ-loop
-add-i c = omega arith
-
-loop-less : tie.Need-loop-less Inv-loop μ-loop
-loop-less c = omega arith
 
 loop-again : tie.Need-loop-again Inv-loop μ-loop
 loop-again c =
@@ -49,14 +36,5 @@ pub copy-spec : {M : Type 1} → statement M
 copy-spec =
     tie.close
     (tie.spec
-    Inv-loop
-    μ-loop
-    lesser-requires
-    loop-holds
-    shared-slice-read-part
-    slice-write-part
-    add-i
-    loop-less
-    loop-again
-    same-length
-    returns)
+    Inv-loop μ-loop (λ c κs. search needs) loop-holds (λ c. omega arith) (λ c. omega arith) (λ c. omega arith)
+    (λ c. omega arith) loop-again same-length returns)

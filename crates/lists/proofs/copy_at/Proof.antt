@@ -1,4 +1,5 @@
--- `lists::copy_at` meets its contract: past the end nothing is laid, and else the block is laid over the part's own end.
+-- `lists::copy_at` meets its contract: past the end nothing is laid, and
+-- else the block is laid over the part's own end.
 use mathlib.Core.Path.{sym}
 use denote.Ref.{now}
 use Rattle.lists.proofs.Laid.{laid-past, back-end}
@@ -10,21 +11,6 @@ use Rattle.lists.proofs.copy_at.Tie as tie
 returns : tie.Need-returns
 returns c = sym (laid-past _ _ _ (c .if1 .taken))
 
-sub-copy : tie.Need-sub-copy
-sub-copy c = search needs
-
-part-copy-start : tie.Need-part-copy-start
-part-copy-start c = search needs
-
-part-copy-end : tie.Need-part-copy-end
-part-copy-end c = search needs
-
-copy-requires : tie.Need-copy-requires
-copy-requires c κs = search needs
-
-same-length : tie.Need-same-length
-same-length c = search needs
-
 returns-2 : tie.Need-returns-2
 returns-2 c =
     let a = c .before .before .before .before .before .before .before .args in
@@ -33,4 +19,6 @@ returns-2 c =
 pub copy-at-spec : {M : Type 1} → statement M
 copy-at-spec =
     tie.close
-    (tie.spec returns sub-copy part-copy-start part-copy-end copy-requires same-length returns-2)
+    (tie.spec
+    returns (λ c. search needs) (λ c. search needs) (λ c. search needs) (λ c κs. search needs) (λ c. search needs)
+    returns-2)

@@ -1,4 +1,5 @@
--- `lists::first_zero` meets its contract. No byte before i is zero, so the first zero byte is i further than in the rest.
+-- `lists::first_zero` meets its contract. No byte before i is zero, so the
+-- first zero byte is i further than in the rest.
 use mathlib.Core.Path.{_≡_}
 use Prim.Native.Nat.{_≤_, _+_, _-_}
 use native.Mathlib.Nat.{add-zero}
@@ -22,39 +23,28 @@ abbrev μ-loop : tie.MeasureT-loop
 loop-holds : tie.Need-loop-holds Inv-loop μ-loop
 loop-holds c = (omega arith, add-zero _)
 
-shared-slice-read-if1 : tie.Need-shared-slice-read-if1 Inv-loop μ-loop
-shared-slice-read-if1 c = search needs
-
 returns : tie.Need-returns Inv-loop μ-loop
 returns c =
     let l = c .before .before .before .loop in
-    search-hit isZero (now (c .before .before .before .before .args .bytes)) (l .i) 0 (omega arith) (eq-eqb _ _ (c .if1 .taken)) (l .inv .1)
-
-add-i : tie.Need-add-i Inv-loop μ-loop
-add-i c = search needs
-
-loop-less : tie.Need-loop-less Inv-loop μ-loop
-loop-less c = search needs
+    search-hit isZero (now (c .before .before .before .before .args .bytes)) (l .i) 0 (omega arith)
+    (eq-eqb _ _ (c .if1 .taken)) (l .inv .1)
 
 loop-again : tie.Need-loop-again Inv-loop μ-loop
 loop-again c =
-    let l = c .before .before .before .loop in
-    (omega arith, search-miss isZero (now (c .before .before .before .before .args .bytes)) (l .i) 0 (omega arith) (ne-eqb _ _ (c .if1 .left)) (l .inv .1))
+    let l = c .before .before .before .loop in (
+      omega arith,
+      search-miss isZero (now (c .before .before .before .before .args .bytes)) (l .i) 0 (omega arith)
+          (ne-eqb _ _ (c .if1 .left)) (l .inv .1),
+    )
 
 returns-2 : tie.Need-returns-2 Inv-loop μ-loop
 returns-2 c =
-    search-end isZero (now (c .before .before .args .bytes)) (c .before .loop .i) (omega arith) (c .before .loop .inv .1)
+    search-end isZero (now (c .before .before .args .bytes)) (c .before .loop .i) (omega arith)
+    (c .before .loop .inv .1)
 
 pub first-zero-spec : {M : Type 1} → statement M
 first-zero-spec =
     tie.close
     (tie.spec
-    Inv-loop
-    μ-loop
-    loop-holds
-    shared-slice-read-if1
-    returns
-    add-i
-    loop-less
-    loop-again
+    Inv-loop μ-loop loop-holds (λ c. search needs) returns (λ c. search needs) (λ c. search needs) loop-again
     returns-2)

@@ -1,4 +1,5 @@
--- `numbers::four` meets its contract: the bytes before i are laid over four zeros, and those from i on are still to come.
+-- `numbers::four` meets its contract: the bytes before i are laid over four
+-- zeros, and those from i on are still to come.
 use mathlib.Core.Path.{_≡_, refl, sym, _∙_}
 use mathlib.Core.Logic.{⊎-elim}
 use Prim.Native.Nat.{_-_, _≤_}
@@ -11,7 +12,8 @@ use Rattle.numbers.proofs.four.Statement.{statement}
 use Rattle.numbers.proofs.four.Tie as tie
 
 abbrev Inv-loop : tie.InvT-loop
-Inv-loop bytes scratch₀ i₀ scratch i = (i ≤ 4) × (length scratch ≡ 4) × (laid scratch i (drop i bytes) ≡ laid (zeros 4) 0 bytes)
+Inv-loop bytes scratch₀ i₀ scratch i =
+    (i ≤ 4) × (length scratch ≡ 4) × (laid scratch i (drop i bytes) ≡ laid (zeros 4) 0 bytes)
 
 abbrev μ-loop : tie.MeasureT-loop
 μ-loop bytes scratch₀ i₀ scratch i = 4 - i
@@ -20,23 +22,15 @@ loop-holds : tie.Need-loop-holds Inv-loop μ-loop
 unfolding zeros
 loop-holds c = (omega arith, refl, refl)
 
-shared-slice-read-scratch : tie.Need-shared-slice-read-scratch Inv-loop μ-loop
-shared-slice-read-scratch c = search needs
-
-array-write-scratch : tie.Need-array-write-scratch Inv-loop μ-loop
-array-write-scratch c = search needs
-
-add-i : tie.Need-add-i Inv-loop μ-loop
-add-i c = search needs
-
-loop-less : tie.Need-loop-less Inv-loop μ-loop
-loop-less c = search needs
-
 loop-again : tie.Need-loop-again Inv-loop μ-loop
 loop-again c =
     let l = c .before .before .loop in
     ⊎-elim
-    (λ w. (omega arith, rw (w .2) (simp length-set (l .inv .1)), rw (w .2) (laid-turn _ _ (l .i) (w .0 .taken) ∙ l .inv .2)))
+    (λ w. (
+      omega arith,
+      rw (w .2) (simp length-set (l .inv .1)),
+      rw (w .2) (laid-turn _ _ (l .i) (w .0 .taken) ∙ l .inv .2),
+    ))
     (λ w. (omega arith, rw (w .1) (l .inv .1), rw (w .1) (laid-rest _ _ (l .i) (w .0 .left) ∙ l .inv .2)))
     (c .if1 .came)
 
@@ -47,12 +41,5 @@ pub four-spec : {M : Type 1} → statement M
 four-spec =
     tie.close
     (tie.spec
-    Inv-loop
-    μ-loop
-    loop-holds
-    shared-slice-read-scratch
-    array-write-scratch
-    add-i
-    loop-less
-    loop-again
-    returns)
+    Inv-loop μ-loop loop-holds (λ c. search needs) (λ c. search needs) (λ c. search needs) (λ c. search needs)
+    loop-again returns)

@@ -5,15 +5,12 @@ use borrow.Author.Needs.{needs}
 use Rattle.numbers.proofs.narrow.Statement.{statement}
 use Rattle.numbers.proofs.narrow.Tie as tie
 
-code-requires : tie.Need-code-requires
-code-requires c κs = search needs
-
-width-requires : tie.Need-width-requires
-width-requires c κs = search needs
-
 returns : tie.Need-returns
 unfolding narrowest
 returns c = c .width .ensures ∙ ap widthOf (c .before .code .ensures)
 
 pub narrow-spec : {M : Type 1} → statement M
-narrow-spec = tie.close (tie.spec code-requires width-requires returns)
+narrow-spec =
+    tie.close
+    (tie.spec
+    (λ c κs. search needs) (λ c κs. search needs) returns)

@@ -6,15 +6,12 @@ use borrow.Author.Needs.{needs}
 use Rattle.numbers.proofs.number.Statement.{statement}
 use Rattle.numbers.proofs.number.Tie as tie
 
-four-requires : tie.Need-four-requires
-four-requires c κs = search needs
-
-joined-requires : tie.Need-joined-requires
-joined-requires c κs = search needs
-
 returns : tie.Need-returns
 unfolding valueOf
 returns c = c .joined .ensures ∙ ap little (c .before .four .ensures) ∙ scratch 4 _
 
 pub number-spec : {M : Type 1} → statement M
-number-spec = tie.close (tie.spec four-requires joined-requires returns)
+number-spec =
+    tie.close
+    (tie.spec
+    (λ c κs. search needs) (λ c κs. search needs) returns)

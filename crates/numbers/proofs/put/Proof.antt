@@ -16,39 +16,24 @@ use Rattle.numbers.proofs.put.Tie as tie
 four : (c : tie.After-lesser) → length (c .before .split .result) ≡ 4
 four c = ap length (c .before .split .ensures) ∙ length-bytesOf 4 (c .before .before .before .args .value)
 
-split-requires : tie.Need-split-requires
-split-requires c κs = search needs
-
-lesser-requires : tie.Need-lesser-requires
-lesser-requires c κs = search needs
-
-array-share-prefix-bytes : tie.Need-array-share-prefix-bytes
-array-share-prefix-bytes c = search needs
-
 slice-aggregate-copy-at : tie.Need-slice-aggregate-copy-at
-slice-aggregate-copy-at c = simp length-take (omega (arith, four (c .before .before), c .before .before .lesser .ensures))
-
-copy-at-requires : tie.Need-copy-at-requires
-copy-at-requires c κs = search needs
-
-same-length : tie.Need-same-length
-same-length c = search needs
+slice-aggregate-copy-at c = simp length-take
+    (omega (arith, four (c .before .before), c .before .before .lesser .ensures))
 
 returns : tie.Need-returns
 returns c =
-    let a = c .before .before .before .before .before .before .before .before .args in
-    let n : c .before .before .before .before .before .lesser .result ≡ min (a .width) (length (bytesOf 4 (a .value))) = c .before .before .before .before .before .lesser .ensures ∙ simp length-bytesOf in
+    let at-lesser = c .before .before .before .before .before in
+    let at-split = at-lesser .before in
+    let start = at-split .before .before in
+    let a = start .args in
+    let n : at-lesser .lesser .result ≡ min (a .width) (length (bytesOf 4 (a .value))) =
+    at-lesser .lesser .ensures ∙ simp length-bytesOf in
     c .before .before .copy-at .ensures
-    ∙ ap (laid (now (a .out)) (a .at)) (rw (c .before .before .before .before .before .before .split .ensures, n) (take-least (a .width) (bytesOf 4 (a .value))))
+    ∙ ap (laid (now (a .out)) (a .at)) (rw (at-split .split .ensures, n) (take-least (a .width) (bytesOf 4 (a .value))))
 
 pub put-spec : {M : Type 1} → statement M
 put-spec =
     tie.close
     (tie.spec
-    split-requires
-    lesser-requires
-    array-share-prefix-bytes
-    slice-aggregate-copy-at
-    copy-at-requires
-    same-length
-    returns)
+    (λ c κs. search needs) (λ c κs. search needs) (λ c. search needs) slice-aggregate-copy-at (λ c κs. search needs)
+    (λ c. search needs) returns)

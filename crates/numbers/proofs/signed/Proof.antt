@@ -1,4 +1,5 @@
--- `numbers::signed` meets its contract: the number itself below 2 ^ 31, and from there on -1 less what is missing to 2 ^ 32 - 1.
+-- `numbers::signed` meets its contract: the number itself below 2 ^ 31, and
+-- from there on -1 less what is missing to 2 ^ 32 - 1.
 use Prim.Native.Nat.{_-_}
 use Rattle.numbers.proofs.Signs.{low-fits, is-pos, is-neg}
 use borrow.Author.Needs.{needs}
@@ -6,17 +7,8 @@ use native.Mathlib.Omega.{arith}
 use Rattle.numbers.proofs.signed.Statement.{statement}
 use Rattle.numbers.proofs.signed.Tie as tie
 
-cast-result : tie.Need-cast-result
-cast-result c = search needs
-
 returns : tie.Need-returns
 returns c = is-pos _ (c .if1 .taken)
-
-sub-below : tie.Need-sub-below
-sub-below c = search needs
-
-cast-below : tie.Need-cast-below
-cast-below c = search needs
 
 sub-result : tie.Need-sub-result
 sub-result c = low-fits (4294967295 - c .before .args .value) (omega arith)
@@ -25,4 +17,7 @@ returns-2 : tie.Need-returns-2
 returns-2 c = is-neg _ (c .if1 .left)
 
 pub signed-spec : {M : Type 1} → statement M
-signed-spec = tie.close (tie.spec cast-result returns sub-below cast-below sub-result returns-2)
+signed-spec =
+    tie.close
+    (tie.spec
+    (λ c. search needs) returns (λ c. search needs) (λ c. search needs) sub-result returns-2)

@@ -7,12 +7,6 @@ use borrow.Author.Needs.{needs}
 use Rattle.numbers.proofs.status.Statement.{statement}
 use Rattle.numbers.proofs.status.Tie as tie
 
-joined-requires : tie.Need-joined-requires
-joined-requires c κs = search needs
-
-signed-requires : tie.Need-signed-requires
-signed-requires c κs = search needs
-
 returns : tie.Need-returns
 unfolding statusOf
 returns c =
@@ -20,4 +14,7 @@ returns c =
     back ∙ c .signed .ensures ∙ ap signedOf (c .before .joined .ensures)
 
 pub status-spec : {M : Type 1} → statement M
-status-spec = tie.close (tie.spec joined-requires signed-requires returns)
+status-spec =
+    tie.close
+    (tie.spec
+    (λ c κs. search needs) (λ c κs. search needs) returns)

@@ -8,12 +8,6 @@ use borrow.Author.Needs.{needs}
 use Rattle.numbers.proofs.status_bytes.Statement.{statement}
 use Rattle.numbers.proofs.status_bytes.Tie as tie
 
-unsigned-requires : tie.Need-unsigned-requires
-unsigned-requires c κs = search needs
-
-split-requires : tie.Need-split-requires
-split-requires c κs = search needs
-
 returns : tie.Need-returns
 unfolding statusBytes
 returns c =
@@ -21,4 +15,7 @@ returns c =
     c .split .ensures ∙ ap (bytesOf 4) (c .before .unsigned .ensures ∙ ap unsignedOf back)
 
 pub status-bytes-spec : {M : Type 1} → statement M
-status-bytes-spec = tie.close (tie.spec unsigned-requires split-requires returns)
+status-bytes-spec =
+    tie.close
+    (tie.spec
+    (λ c κs. search needs) (λ c κs. search needs) returns)

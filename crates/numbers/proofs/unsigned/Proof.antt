@@ -1,4 +1,5 @@
--- `numbers::unsigned` meets its contract: the number itself from zero on, and below zero 2 ^ 32 - 1 less what it is below -1.
+-- `numbers::unsigned` meets its contract: the number itself from zero on, and
+-- below zero 2 ^ 32 - 1 less what it is below -1.
 use Rattle.numbers.proofs.Signs.{up-back, down-back, down-back2}
 use native.Mathlib.Omega.{arith}
 use Rattle.numbers.proofs.unsigned.Statement.{statement}
@@ -14,7 +15,8 @@ sub-below : tie.Need-sub-below
 sub-below c = down-back _ (c .before .fits .status) (c .if1 .left) .fits-d
 
 cast-result-2 : tie.Need-cast-result-2
-cast-result-2 c = let d = down-back2 _ (c .before .fits .status) (c .if1 .left) in (d .nonneg, record { fits = omega arith })
+cast-result-2 c = let d = down-back2 _ (c .before .fits .status) (c .if1 .left) in
+    (d .nonneg, record { fits = omega arith })
 
 sub-result : tie.Need-sub-result
 sub-result c = down-back2 _ (c .before .fits .status) (c .if1 .left) .small

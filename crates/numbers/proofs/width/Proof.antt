@@ -18,7 +18,11 @@ returns-3 c = simp (c .match .keys3)
 
 returns-4 : tie.Need-returns-4
 unfolding widthOf
-returns-4 c = simp (ne-eqb _ _ (c .match .rest .0 .0 .1), ne-eqb _ _ (c .match .rest .0 .1), ne-eqb _ _ (c .match .rest .1))
+returns-4 c = simp (
+  ne-eqb _ _ (c .match .rest .0 .0 .1),
+  ne-eqb _ _ (c .match .rest .0 .1),
+  ne-eqb _ _ (c .match .rest .1),
+)
 
 pub width-spec : {M : Type 1} → statement M
 width-spec = tie.close (tie.spec returns returns-2 returns-3 returns-4)

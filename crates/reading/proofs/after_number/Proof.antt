@@ -7,22 +7,13 @@ use native.Mathlib.Omega.{arith}
 use Rattle.reading.proofs.after_number.Statement.{statement}
 use Rattle.reading.proofs.after_number.Tie as tie
 
-create-request-requires : tie.Need-create-request-requires
-create-request-requires c κs = search needs
-
 returns : tie.Need-returns
 unfolding afterNumber
 returns c = search (tests, c .before .if2 .taken, c .create-request .ensures)
 
-create-response-requires : tie.Need-create-response-requires
-create-response-requires c κs = search needs
-
 returns-2 : tie.Need-returns-2
 unfolding afterNumber
 returns-2 c = search (tests, c .before .if2 .left, c .create-response .ensures)
-
-width-requires : tie.Need-width-requires
-width-requires c κs = search needs
 
 data-first-requires : tie.Need-data-first-requires
 data-first-requires c κs = omega (arith, c .width .ensures, width-le (c .before .before .before .before .args .middle))
@@ -31,15 +22,9 @@ returns-3 : tie.Need-returns-3
 unfolding afterNumber
 returns-3 c = search (tests, c .data-first .ensures, c .before .width .ensures)
 
-sub-t12 : tie.Need-sub-t12
-sub-t12 c = search needs
-
 returns-4 : tie.Need-returns-4
 unfolding afterNumber
 returns-4 c = search tests
-
-closing-requires : tie.Need-closing-requires
-closing-requires c κs = search needs
 
 returns-5 : tie.Need-returns-5
 unfolding afterNumber
@@ -49,14 +34,5 @@ pub after-number-spec : {M : Type 1} → statement M
 after-number-spec =
     tie.close
     (tie.spec
-    create-request-requires
-    returns
-    create-response-requires
-    returns-2
-    width-requires
-    data-first-requires
-    returns-3
-    sub-t12
-    returns-4
-    closing-requires
-    returns-5)
+    (λ c κs. search needs) returns (λ c κs. search needs) returns-2 (λ c κs. search needs) data-first-requires
+    returns-3 (λ c. search needs) returns-4 (λ c κs. search needs) returns-5)

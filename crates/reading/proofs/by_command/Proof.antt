@@ -1,4 +1,5 @@
--- `reading::by_command` meets its contract: its tests are the definition's, and the rest is `capabilities` or `numbered`.
+-- `reading::by_command` meets its contract: its tests are the definition's,
+-- and the rest is `capabilities` or `numbered`.
 use Rattle.reading.specs.Reading.{byCommand}
 use Rattle.lists.proofs.Cases.{tests}
 use borrow.Author.Needs.{needs}
@@ -13,15 +14,9 @@ returns-2 : tie.Need-returns-2
 unfolding byCommand
 returns-2 c = search tests
 
-capabilities-requires : tie.Need-capabilities-requires
-capabilities-requires c κs = search needs
-
 returns-3 : tie.Need-returns-3
 unfolding byCommand
 returns-3 c = search (tests, c .capabilities .ensures)
-
-numbered-requires : tie.Need-numbered-requires
-numbered-requires c κs = search needs
 
 returns-4 : tie.Need-returns-4
 unfolding byCommand
@@ -30,4 +25,5 @@ returns-4 c = search (tests, c .numbered .ensures)
 pub by-command-spec : {M : Type 1} → statement M
 by-command-spec =
     tie.close
-    (tie.spec returns returns-2 capabilities-requires returns-3 numbered-requires returns-4)
+    (tie.spec
+    returns returns-2 (λ c κs. search needs) returns-3 (λ c κs. search needs) returns-4)

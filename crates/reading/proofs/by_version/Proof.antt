@@ -13,9 +13,6 @@ returns-2 : tie.Need-returns-2
 unfolding byVersion
 returns-2 c = search tests
 
-charged-requires : tie.Need-charged-requires
-charged-requires c κs = search needs
-
 returns-3 : tie.Need-returns-3
 unfolding byVersion
 returns-3 c = search (tests, c .before .if3 .taken, c .charged .ensures)
@@ -30,4 +27,6 @@ returns-5 c = search (tests, c .before .if3 .left)
 
 pub by-version-spec : {M : Type 1} → statement M
 by-version-spec =
-    tie.close (tie.spec returns returns-2 charged-requires returns-3 returns-4 returns-5)
+    tie.close
+    (tie.spec
+    returns returns-2 (λ c κs. search needs) returns-3 returns-4 returns-5)

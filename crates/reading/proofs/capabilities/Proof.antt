@@ -13,9 +13,6 @@ returns-2 : tie.Need-returns-2
 unfolding capabilities
 returns-2 c = search tests
 
-shared-slice-read-if3 : tie.Need-shared-slice-read-if3
-shared-slice-read-if3 c = search needs
-
 returns-3 : tie.Need-returns-3
 unfolding capabilities
 returns-3 c = search tests
@@ -23,12 +20,6 @@ returns-3 c = search tests
 returns-4 : tie.Need-returns-4
 unfolding capabilities
 returns-4 c = search tests
-
-short-at-requires : tie.Need-short-at-requires
-short-at-requires c κs = search needs
-
-by-version-requires : tie.Need-by-version-requires
-by-version-requires c κs = search needs
 
 returns-5 : tie.Need-returns-5
 unfolding capabilities
@@ -38,11 +29,5 @@ pub capabilities-spec : {M : Type 1} → statement M
 capabilities-spec =
     tie.close
     (tie.spec
-    returns
-    returns-2
-    shared-slice-read-if3
-    returns-3
-    returns-4
-    short-at-requires
-    by-version-requires
+    returns returns-2 (λ c. search needs) returns-3 returns-4 (λ c κs. search needs) (λ c κs. search needs)
     returns-5)

@@ -21,33 +21,20 @@ returns-4 : tie.Need-returns-4
 unfolding charged
 returns-4 c = search tests
 
-short-at-requires : tie.Need-short-at-requires
-short-at-requires c κs = search needs
-
-short-at-requires-2 : tie.Need-short-at-requires-2
-short-at-requires-2 c κs = search needs
-
-short-at-requires-3 : tie.Need-short-at-requires-3
-short-at-requires-3 c κs = search needs
-
-short-at-requires-4 : tie.Need-short-at-requires-4
-short-at-requires-4 c κs = search needs
-
 returns-5 : tie.Need-returns-5
 unfolding charged
 returns-5 c =
-    search (tests, c .short-at4 .ensures, c .before .short-at3 .ensures, c .before .before .short-at2 .ensures, c .before .before .before .short-at .ensures)
+    search (
+      tests,
+      c .short-at4 .ensures,
+      c .before .short-at3 .ensures,
+      c .before .before .short-at2 .ensures,
+      c .before .before .before .short-at .ensures,
+    )
 
 pub charged-spec : {M : Type 1} → statement M
 charged-spec =
     tie.close
     (tie.spec
-    returns
-    returns-2
-    returns-3
-    returns-4
-    short-at-requires
-    short-at-requires-2
-    short-at-requires-3
-    short-at-requires-4
-    returns-5)
+    returns returns-2 returns-3 returns-4 (λ c κs. search needs) (λ c κs. search needs) (λ c κs. search needs)
+    (λ c κs. search needs) returns-5)

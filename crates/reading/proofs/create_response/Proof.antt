@@ -1,4 +1,5 @@
--- `reading::create_response` meets its contract: its tests are the definition's, and the scratch holds the four bytes of the status.
+-- `reading::create_response` meets its contract: its tests are the definition's,
+-- and the scratch holds the four bytes of the status.
 use mathlib.Core.Path.{_≡_, ap, _∙_}
 use denote.Ref.{now}
 use mir.Syntax.{w32}
@@ -15,37 +16,13 @@ use native.Mathlib.Omega.{arith}
 use Rattle.reading.proofs.create_response.Statement.{statement}
 use Rattle.reading.proofs.create_response.Tie as tie
 
-add-if1 : tie.Need-add-if1
-add-if1 c = search needs
-
 returns : tie.Need-returns
 unfolding createResponse
 returns c = search tests
 
-add-if2 : tie.Need-add-if2
-add-if2 c = search needs
-
 returns-2 : tie.Need-returns-2
 unfolding createResponse
 returns-2 c = search tests
-
-add-four : tie.Need-add-four
-add-four c = search needs
-
-sub-four : tie.Need-sub-four
-sub-four c = search needs
-
-part-four-start : tie.Need-part-four-start
-part-four-start c = search needs
-
-part-four-end : tie.Need-part-four-end
-part-four-end c = search needs
-
-four-requires : tie.Need-four-requires
-four-requires c κs = search needs
-
-status-requires : tie.Need-status-requires
-status-requires c κs = search needs
 
 returns-3 : tie.Need-returns-3
 unfolding createResponse
@@ -55,21 +32,13 @@ returns-3 c =
     let four : c .before .four .result ≡ take 4 (drop (a .at) (now (a .pdu))) =
     c .before .four .ensures
     ∙ ap (laid (zeros 4) 0) (from-to (now (a .pdu)) (a .at) 4)
-    ∙ whole (zeros 4) (take 4 (drop (a .at) (now (a .pdu)))) (simp (length-zeros, length-take, length-drop) (omega arith)) in
+    ∙ whole (zeros 4) (take 4 (drop (a .at) (now (a .pdu))))
+    (simp (length-zeros, length-take, length-drop) (omega arith)) in
     ap (CreateResponse (a .number)) (back ∙ c .status .ensures ∙ ap statusOf four) ∙ search tests
 
 pub create-response-spec : {M : Type 1} → statement M
 create-response-spec =
     tie.close
     (tie.spec
-    add-if1
-    returns
-    add-if2
-    returns-2
-    add-four
-    sub-four
-    part-four-start
-    part-four-end
-    four-requires
-    status-requires
-    returns-3)
+    (λ c. search needs) returns (λ c. search needs) returns-2 (λ c. search needs) (λ c. search needs)
+    (λ c. search needs) (λ c. search needs) (λ c κs. search needs) (λ c κs. search needs) returns-3)

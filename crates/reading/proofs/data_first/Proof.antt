@@ -5,21 +5,9 @@ use borrow.Author.Needs.{needs}
 use Rattle.reading.proofs.data_first.Statement.{statement}
 use Rattle.reading.proofs.data_first.Tie as tie
 
-add-if1 : tie.Need-add-if1
-add-if1 c = search needs
-
 returns : tie.Need-returns
 unfolding dataFirst
 returns c = search tests
-
-number-at-requires : tie.Need-number-at-requires
-number-at-requires c κs = search needs
-
-add-start : tie.Need-add-start
-add-start c = search needs
-
-sub-t9 : tie.Need-sub-t9
-sub-t9 c = search needs
 
 returns-2 : tie.Need-returns-2
 unfolding dataFirst
@@ -27,4 +15,6 @@ returns-2 c = search (tests, c .number-at .ensures)
 
 pub data-first-spec : {M : Type 1} → statement M
 data-first-spec =
-    tie.close (tie.spec add-if1 returns number-at-requires add-start sub-t9 returns-2)
+    tie.close
+    (tie.spec
+    (λ c. search needs) returns (λ c κs. search needs) (λ c. search needs) (λ c. search needs) returns-2)

@@ -9,22 +9,17 @@ use native.Mathlib.Omega.{arith}
 use Rattle.reading.proofs.numbered.Statement.{statement}
 use Rattle.reading.proofs.numbered.Tie as tie
 
-good-widths : (c : tie.Else2) → badLengthWidth (c .before .before .before .before .args .cmd) (c .before .before .before .before .args .middle) ≡ false
+good-widths : (c : tie.Else2) → badLengthWidth (c .before .before .before .before .args .cmd)
+    (c .before .before .before .before .args .middle) ≡ false
 good-widths c = sym (c .before .bad-length-width .ensures) ∙ c .if2 .left
 
 returns : tie.Need-returns
 unfolding numbered
 returns c = search tests
 
-bad-length-width-requires : tie.Need-bad-length-width-requires
-bad-length-width-requires c κs = search needs
-
 returns-2 : tie.Need-returns-2
 unfolding numbered
 returns-2 c = search (tests, sym (c .before .bad-length-width .ensures) ∙ c .if2 .taken)
-
-width-requires : tie.Need-width-requires
-width-requires c κs = search needs
 
 add-if3 : tie.Need-add-if3
 add-if3 c = omega (arith, c .width .ensures, width-le (c .before .before .before .before .before .args .cb-id))
@@ -37,29 +32,28 @@ number-at-requires : tie.Need-number-at-requires
 number-at-requires c κs =
     omega (arith, c .before .width .ensures, width-le (c .before .before .before .before .before .before .args .cb-id))
 
-add-after-number : tie.Need-add-after-number
-add-after-number c = search needs
-
 after-number-requires : tie.Need-after-number-requires
 after-number-requires c κs =
-    omega (arith, c .before .before .width .ensures, width-le (c .before .before .before .before .before .before .before .args .cb-id))
+    omega (
+      arith,
+      c .before .before .width .ensures,
+      width-le (c .before .before .before .before .before .before .before .args .cb-id),
+    )
 
 returns-4 : tie.Need-returns-4
 unfolding numbered
 returns-4 c =
-    rw (← c .before .before .before .width .ensures) (search (tests, good-widths (c .before .before .before .before), c .after-number .ensures, c .before .number-at .ensures))
+    rw (← c .before .before .before .width .ensures)
+    (search (
+      tests,
+      good-widths (c .before .before .before .before),
+      c .after-number .ensures,
+      c .before .number-at .ensures,
+    ))
 
 pub numbered-spec : {M : Type 1} → statement M
 numbered-spec =
     tie.close
     (tie.spec
-    returns
-    bad-length-width-requires
-    returns-2
-    width-requires
-    add-if3
-    returns-3
-    number-at-requires
-    add-after-number
-    after-number-requires
-    returns-4)
+    returns (λ c κs. search needs) returns-2 (λ c κs. search needs) add-if3 returns-3 number-at-requires
+    (λ c. search needs) after-number-requires returns-4)

@@ -14,16 +14,12 @@ returns-2 : tie.Need-returns-2
 unfolding readPdu PDU-MAX
 returns-2 c = search tests
 
-shared-slice-read-first : tie.Need-shared-slice-read-first
-shared-slice-read-first c = search needs
-
-by-command-requires : tie.Need-by-command-requires
-by-command-requires c κs = search needs
-
 returns-3 : tie.Need-returns-3
 unfolding readPdu PDU-MAX
 returns-3 c = search (tests, c .by-command .ensures)
 
 pub read-spec : {M : Type 1} → statement M
 read-spec =
-    tie.close (tie.spec returns returns-2 shared-slice-read-first by-command-requires returns-3)
+    tie.close
+    (tie.spec
+    returns returns-2 (λ c. search needs) (λ c κs. search needs) returns-3)

@@ -6,16 +6,17 @@ use native.Mathlib.Omega.{arith}
 use Rattle.reading.proofs.short_at.Statement.{statement}
 use Rattle.reading.proofs.short_at.Tie as tie
 
-number-at-requires : tie.Need-number-at-requires
-number-at-requires c κs = search needs
-
 cast-result : tie.Need-cast-result
 cast-result c =
     let a = c .before .before .args in
-    omega (arith, c .number-at .ensures, value-below (now (a .pdu)) (a .at) 2 (omega arith) (λ i. c .before .shared-slice-known .given i .fits))
-
-returns : tie.Need-returns
-returns c = search needs
+    omega (
+      arith,
+      c .number-at .ensures,
+      value-below (now (a .pdu)) (a .at) 2 (omega arith) (λ i. c .before .shared-slice-known .given i .fits),
+    )
 
 pub short-at-spec : {M : Type 1} → statement M
-short-at-spec = tie.close (tie.spec number-at-requires cast-result returns)
+short-at-spec =
+    tie.close
+    (tie.spec
+    (λ c κs. search needs) cast-result (λ c. search needs))

@@ -15,15 +15,6 @@ returns c = let short = c .if1 .taken in simp lt-ltb
 slice-aggregate-number : tie.Need-slice-aggregate-number
 slice-aggregate-number c = sym (length-take-le 2 (now (c .before .before .before .args .input)) (c .before .if1 .left))
 
-number-requires : tie.Need-number-requires
-number-requires c κs = search needs
-
-cast-n : tie.Need-cast-n
-cast-n c = search needs
-
-add-n : tie.Need-add-n
-add-n c = search needs
-
 returns-2 : tie.Need-returns-2
 unfolding wholeOf announced
 returns-2 c =
@@ -41,4 +32,6 @@ returns-3 c =
 pub whole-spec : {M : Type 1} → statement M
 whole-spec =
     tie.close
-    (tie.spec returns slice-aggregate-number number-requires cast-n add-n returns-2 returns-3)
+    (tie.spec
+    returns slice-aggregate-number (λ c κs. search needs) (λ c. search needs) (λ c. search needs) returns-2
+    returns-3)

@@ -17,14 +17,13 @@ use Rattle.store.proofs.clear_part.Statement.{statement}
 use Rattle.store.proofs.clear_part.Tie as tie
 
 -- past the test the part is there
-there : (c : tie.Else1) → hasPart (length (now (c .before .before .before .args .store))) (c .before .before .before .args .k) ≡ true
+there : (c : tie.Else1) → hasPart (length (now (c .before .before .before .args .store)))
+    (c .before .before .before .args .k) ≡ true
 there c = sym (c .before .has-part .ensures) ∙ not-false _ (c .if1 .left)
 
-fits : (c : tie.Else1) → PART * c .before .before .before .args .k + PART ≤ length (now (c .before .before .before .args .store))
+fits : (c : tie.Else1) → PART * c .before .before .before .args .k + PART ≤ length
+    (now (c .before .before .before .args .store))
 fits c = inside (now (c .before .before .before .args .store)) (c .before .before .before .args .k) (there c)
-
-has-part-requires : tie.Need-has-part-requires
-has-part-requires c κs = search needs
 
 returns : tie.Need-returns
 returns c = sym (cleared-nowhere _ _ (sym (c .before .has-part .ensures) ∙ not-true _ (c .if1 .taken)))
@@ -37,21 +36,9 @@ add-clear : tie.Need-add-clear
 unfolding PART MESSAGE-MAX
 add-clear c = omega (arith, fits c)
 
-sub-clear : tie.Need-sub-clear
-sub-clear c = search needs
-
-part-clear-start : tie.Need-part-clear-start
-part-clear-start c = search needs
-
 part-clear-end : tie.Need-part-clear-end
 unfolding PART MESSAGE-MAX
 part-clear-end c = omega (arith, fits c)
-
-clear-requires : tie.Need-clear-requires
-clear-requires c κs = search needs
-
-same-length : tie.Need-same-length
-same-length c = search needs
 
 returns-2 : tie.Need-returns-2
 unfolding PART MESSAGE-MAX
@@ -59,20 +46,14 @@ returns-2 c =
     let a = c .before .before .before .before .before .before .before .args in
     let store = now (a .store) in
     let here = c .before .before .before .before in
-    let zeroed = c .before .before .clear .ensures ∙ ap (λ (l : List ℕ). zeros (length l)) (lent store (a .k)) ∙ ap zeros (length-part store (a .k) (fits here)) in
-    rw zeroed (come-back store (a .k) (zeros PART) (fits here) (length-zeros PART)) ∙ sym (cleared-there store (a .k) (there here))
+    let zeroed = c .before .before .clear .ensures ∙ ap (λ (l : List ℕ). zeros (length l)) (lent store (a .k)) ∙ ap
+    zeros (length-part store (a .k) (fits here)) in
+    rw zeroed (come-back store (a .k) (zeros PART) (fits here) (length-zeros PART)) ∙ sym
+    (cleared-there store (a .k) (there here))
 
 pub clear-part-spec : {M : Type 1} → statement M
 clear-part-spec =
     tie.close
     (tie.spec
-    has-part-requires
-    returns
-    mul-start
-    add-clear
-    sub-clear
-    part-clear-start
-    part-clear-end
-    clear-requires
-    same-length
-    returns-2)
+    (λ c κs. search needs) returns mul-start add-clear (λ c. search needs) (λ c. search needs) part-clear-end
+    (λ c κs. search needs) (λ c. search needs) returns-2)

@@ -17,14 +17,14 @@ use Rattle.store.proofs.put_block.Statement.{statement}
 use Rattle.store.proofs.put_block.Tie as tie
 
 -- past the test the part is there
-there : (c : tie.Else1) → hasPart (length (now (c .before .before .before .before .args .store))) (c .before .before .before .before .args .k) ≡ true
+there : (c : tie.Else1) → hasPart (length (now (c .before .before .before .before .args .store)))
+    (c .before .before .before .before .args .k) ≡ true
 there c = sym (c .before .has-part .ensures) ∙ not-false _ (c .if1 .left)
 
-fits : (c : tie.Else1) → PART * c .before .before .before .before .args .k + PART ≤ length (now (c .before .before .before .before .args .store))
-fits c = inside (now (c .before .before .before .before .args .store)) (c .before .before .before .before .args .k) (there c)
-
-has-part-requires : tie.Need-has-part-requires
-has-part-requires c κs = search needs
+fits : (c : tie.Else1) → PART * c .before .before .before .before .args .k + PART ≤ length
+    (now (c .before .before .before .before .args .store))
+fits c = inside (now (c .before .before .before .before .args .store)) (c .before .before .before .before .args .k)
+    (there c)
 
 returns : tie.Need-returns
 returns c = sym (put-nowhere _ _ _ _ (sym (c .before .has-part .ensures) ∙ not-true _ (c .if1 .taken)))
@@ -37,44 +37,27 @@ add-copy-at : tie.Need-add-copy-at
 unfolding PART MESSAGE-MAX
 add-copy-at c = omega (arith, fits c)
 
-sub-copy-at : tie.Need-sub-copy-at
-sub-copy-at c = search needs
-
-part-copy-at-start : tie.Need-part-copy-at-start
-part-copy-at-start c = search needs
-
 part-copy-at-end : tie.Need-part-copy-at-end
 unfolding PART MESSAGE-MAX
 part-copy-at-end c = omega (arith, fits c)
 
-copy-at-requires : tie.Need-copy-at-requires
-copy-at-requires c κs = search needs
-
-same-length : tie.Need-same-length
-same-length c = search needs
-
 returns-2 : tie.Need-returns-2
 unfolding PART MESSAGE-MAX
 returns-2 c =
-    let a = c .before .before .before .before .before .before .before .before .args in
+    let far = c .before .before .before .before .before .before .before in
+    let start = far .before in
+    let a = start .args in
     let store = now (a .store) in
     let block = now (a .block) in
     let here = c .before .before .before .before in
     let filled = c .before .before .copy-at .ensures ∙ ap (λ (l : List ℕ). laid l (a .at) block) (lent store (a .k)) in
     let long = length-laid (part store (a .k)) (a .at) block ∙ length-part store (a .k) (fits here) in
-    rw filled (come-back store (a .k) (laid (part store (a .k)) (a .at) block) (fits here) long) ∙ sym (put-there store (a .k) (a .at) block (there here))
+    rw filled (come-back store (a .k) (laid (part store (a .k)) (a .at) block) (fits here) long) ∙ sym
+    (put-there store (a .k) (a .at) block (there here))
 
 pub put-block-spec : {M : Type 1} → statement M
 put-block-spec =
     tie.close
     (tie.spec
-    has-part-requires
-    returns
-    mul-start
-    add-copy-at
-    sub-copy-at
-    part-copy-at-start
-    part-copy-at-end
-    copy-at-requires
-    same-length
-    returns-2)
+    (λ c κs. search needs) returns mul-start add-copy-at (λ c. search needs) (λ c. search needs) part-copy-at-end
+    (λ c κs. search needs) (λ c. search needs) returns-2)

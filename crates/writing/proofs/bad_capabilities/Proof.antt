@@ -5,15 +5,9 @@ use borrow.Author.Needs.{needs}
 use Rattle.writing.proofs.bad_capabilities.Statement.{statement}
 use Rattle.writing.proofs.bad_capabilities.Tie as tie
 
-all-zero-requires : tie.Need-all-zero-requires
-all-zero-requires c κs = search needs
-
 returns : tie.Need-returns
 unfolding badCapabilities
 returns c = search (tests, c .all-zero .ensures)
-
-bad-version-requires : tie.Need-bad-version-requires
-bad-version-requires c κs = search needs
 
 returns-2 : tie.Need-returns-2
 unfolding badCapabilities
@@ -21,4 +15,6 @@ returns-2 c = search (tests, c .bad-version .ensures)
 
 pub bad-capabilities-spec : {M : Type 1} → statement M
 bad-capabilities-spec =
-    tie.close (tie.spec all-zero-requires returns bad-version-requires returns-2)
+    tie.close
+    (tie.spec
+    (λ c κs. search needs) returns (λ c κs. search needs) returns-2)

@@ -9,12 +9,12 @@ returns : tie.Need-returns
 unfolding badRequest
 returns c = search tests
 
-first-zero-requires : tie.Need-first-zero-requires
-first-zero-requires c κs = search needs
-
 returns-2 : tie.Need-returns-2
 unfolding badRequest
 returns-2 c = search (tests, c .first-zero .ensures)
 
 pub bad-request-spec : {M : Type 1} → statement M
-bad-request-spec = tie.close (tie.spec returns first-zero-requires returns-2)
+bad-request-spec =
+    tie.close
+    (tie.spec
+    returns (λ c κs. search needs) returns-2)

@@ -1,58 +1,43 @@
--- `writing::write_close` meets its contract: the answer is the judge's on the length of a Close, and what is not refused is laid.
-use mathlib.Core.Path.{refl}
+-- `writing::write_close` meets its contract: the answer is the judge's on the
+-- length of a Close, and what is not refused is laid.
+use mathlib.Core.Path.{_≡_, refl}
+use mathlib.Core.Bool.{false}
+use denote.Ref.{now}
 use Rattle.numbers.proofs.Widths.{narrowest-le}
+use Rattle.laying.specs.Laying.{closeBytes}
 use Rattle.laying.proofs.Lengths.{length-close}
-use Rattle.writing.proofs.Answers.{laid-so, refused-so}
+use Rattle.writing.specs.Writing.{written}
+use Rattle.writing.proofs.Answers.{answered, laid-so, refused-so}
 use borrow.Author.Needs.{needs}
 use native.Mathlib.Omega.{arith}
 use Rattle.writing.proofs.write_close.Statement.{statement}
 use Rattle.writing.proofs.write_close.Tie as tie
 
-narrow-requires : tie.Need-narrow-requires
-narrow-requires c κs = search needs
+-- where the writer began
+abbrev start : tie.After-judge → tie.Start
+start c = c .before .before .before
+
+-- the judge's answer is the answer to the PDU
+answer : (c : tie.After-judge)
+    → c .judge .result ≡ written false (closeBytes (start c .args .number)) (now (start c .args .out))
+answer c =
+    answered _ _ (c .judge .ensures) refl
+    (omega (arith, c .before .narrow .ensures, length-close (start c .args .number)))
 
 add-judge : tie.Need-add-judge
 add-judge c = omega (arith, c .narrow .ensures, narrowest-le (c .before .before .args .number))
 
-judge-requires : tie.Need-judge-requires
-judge-requires c κs = search needs
-
-enum-told : tie.Need-enum-told
-enum-told c = search needs
-
-close-requires : tie.Need-close-requires
-close-requires c κs = search needs
-
-enum-told-2 : tie.Need-enum-told-2
-enum-told-2 c = search needs
-
-same-length : tie.Need-same-length
-same-length c = search needs
-
 returns : tie.Need-returns
 returns c =
-    let a = c .before .before .before .before .before .before .before .before .before .args in
-    let judge = c .before .before .before .before .before .before .judge in
-    let width = c .before .before .before .before .before .before .before .narrow in
-    laid-so _ _ (judge .ensures) refl (omega (arith, width .ensures, length-close (a .number))) (c .before .before .before .before .enum-told .given .1) (c .before .before .close .ensures .1)
+    let told = c .before .before .before .before in
+    (answer (told .before .before), laid-so _ _ (told .enum-told .given .1) (c .before .before .close .ensures .1))
 
 returns-2 : tie.Need-returns-2
-returns-2 c =
-    let a = c .before .before .before .before .before .args in
-    let judge = c .before .before .judge in
-    let width = c .before .before .before .narrow in
-    refused-so _ _ (judge .ensures) refl (omega (arith, width .ensures, length-close (a .number))) (c .enum-told2 .given .1)
+returns-2 c = (answer (c .before .before), refused-so _ _ (c .enum-told2 .given .1))
 
 pub write-close-spec : {M : Type 1} → statement M
 write-close-spec =
     tie.close
     (tie.spec
-    narrow-requires
-    add-judge
-    judge-requires
-    enum-told
-    close-requires
-    enum-told-2
-    same-length
-    returns
-    returns-2)
+    (λ c κs. search needs) add-judge (λ c κs. search needs) (λ c. search needs) (λ c κs. search needs)
+    (λ c. search needs) (λ c. search needs) returns returns-2)

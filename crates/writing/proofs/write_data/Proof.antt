@@ -1,16 +1,29 @@
--- `writing::write_data` meets its contract: the answer is the judge's on the length of a Data, and what is not refused is laid.
-use mathlib.Core.Path.{refl}
+-- `writing::write_data` meets its contract: the answer is the judge's on the
+-- length of a Data, and what is not refused is laid.
+use mathlib.Core.Path.{_≡_, refl}
+use mathlib.Core.Bool.{false}
 use denote.Ref.{now}
 use Rattle.numbers.proofs.Widths.{narrowest-le}
+use Rattle.laying.specs.Laying.{dataBytes}
 use Rattle.laying.proofs.Lengths.{length-data}
-use Rattle.writing.proofs.Answers.{laid-so, refused-so}
+use Rattle.writing.specs.Writing.{written}
+use Rattle.writing.proofs.Answers.{answered, laid-so, refused-so}
 use borrow.Author.Needs.{needs}
 use native.Mathlib.Omega.{arith}
 use Rattle.writing.proofs.write_data.Statement.{statement}
 use Rattle.writing.proofs.write_data.Tie as tie
 
-narrow-requires : tie.Need-narrow-requires
-narrow-requires c κs = search needs
+-- where the writer began
+abbrev start : tie.After-judge → tie.Start
+start c = c .before .before .before .before
+
+-- the judge's answer is the answer to the PDU
+answer : (c : tie.After-judge)
+    → c .judge .result ≡ written false
+    (dataBytes (start c .args .number) (now (start c .args .block))) (now (start c .args .out))
+answer c =
+    answered _ _ (c .judge .ensures) refl
+    (omega (arith, c .before .narrow .ensures, length-data (start c .args .number) (now (start c .args .block))))
 
 add-length : tie.Need-add-length
 add-length c = omega (arith, c .narrow .ensures, narrowest-le (c .before .before .before .args .number))
@@ -18,46 +31,17 @@ add-length c = omega (arith, c .narrow .ensures, narrowest-le (c .before .before
 add-length-2 : tie.Need-add-length-2
 add-length-2 c = omega (arith, c .narrow .ensures, narrowest-le (c .before .before .before .args .number))
 
-judge-requires : tie.Need-judge-requires
-judge-requires c κs = search needs
-
-enum-told : tie.Need-enum-told
-enum-told c = search needs
-
-data-requires : tie.Need-data-requires
-data-requires c κs = search needs
-
-enum-told-2 : tie.Need-enum-told-2
-enum-told-2 c = search needs
-
-same-length : tie.Need-same-length
-same-length c = search needs
-
 returns : tie.Need-returns
 returns c =
-    let a = c .before .before .before .before .before .before .before .before .before .before .args in
-    let judge = c .before .before .before .before .before .before .judge in
-    let width = c .before .before .before .before .before .before .before .narrow in
-    laid-so _ _ (judge .ensures) refl (omega (arith, width .ensures, length-data (a .number) (now (a .block)))) (c .before .before .before .before .enum-told .given .1) (c .before .before .«data» .ensures .1)
+    let told = c .before .before .before .before in
+    (answer (told .before .before), laid-so _ _ (told .enum-told .given .1) (c .before .before .«data» .ensures .1))
 
 returns-2 : tie.Need-returns-2
-returns-2 c =
-    let a = c .before .before .before .before .before .before .args in
-    let judge = c .before .before .judge in
-    let width = c .before .before .before .narrow in
-    refused-so _ _ (judge .ensures) refl (omega (arith, width .ensures, length-data (a .number) (now (a .block)))) (c .enum-told2 .given .1)
+returns-2 c = (answer (c .before .before), refused-so _ _ (c .enum-told2 .given .1))
 
 pub write-data-spec : {M : Type 1} → statement M
 write-data-spec =
     tie.close
     (tie.spec
-    narrow-requires
-    add-length
-    add-length-2
-    judge-requires
-    enum-told
-    data-requires
-    enum-told-2
-    same-length
-    returns
-    returns-2)
+    (λ c κs. search needs) add-length add-length-2 (λ c κs. search needs) (λ c. search needs) (λ c κs. search needs)
+    (λ c. search needs) (λ c. search needs) returns returns-2)

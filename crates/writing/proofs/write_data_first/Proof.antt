@@ -1,75 +1,62 @@
--- `writing::write_data_first` meets its contract: the answer is the judge's on the length of a Data First, and what is not refused is laid.
-use mathlib.Core.Path.{refl}
+-- `writing::write_data_first` meets its contract: the answer is the judge's on the
+-- length of a Data First, and what is not refused is laid.
+use mathlib.Core.Path.{_≡_, refl}
+use mathlib.Core.Bool.{false}
+use Prim.Native.Nat.{_≤_}
 use denote.Ref.{now}
 use Rattle.numbers.proofs.Widths.{narrowest-le}
+use Rattle.laying.specs.Laying.{dataFirstBytes}
 use Rattle.laying.proofs.Lengths.{length-data-first}
-use Rattle.writing.proofs.Answers.{laid-so, refused-so}
+use Rattle.writing.specs.Writing.{written}
+use Rattle.writing.proofs.Answers.{answered, laid-so, refused-so}
 use borrow.Author.Needs.{needs}
 use native.Mathlib.Omega.{arith}
 use Rattle.writing.proofs.write_data_first.Statement.{statement}
 use Rattle.writing.proofs.write_data_first.Tie as tie
 
-narrow-requires : tie.Need-narrow-requires
-narrow-requires c κs = search needs
+-- where the writer began
+abbrev start : tie.After-judge → tie.Start
+start c = c .before .before .before .before .before
+
+-- the judge's answer is the answer to the PDU
+answer : (c : tie.After-judge)
+    → c .judge .result ≡ written false
+    (dataFirstBytes (start c .args .number) (start c .args .length) (now (start c .args .block))) (now (start c .args .out))
+answer c =
+    answered _ _ (c .judge .ensures) refl
+    (omega (
+      arith,
+      c .before .before .narrow .ensures,
+      c .before .narrow2 .ensures,
+      length-data-first (start c .args .number) (start c .args .length) (now (start c .args .block)),
+    ))
 
 add-long : tie.Need-add-long
 add-long c = omega (arith, c .narrow .ensures, narrowest-le (c .before .before .before .args .number))
 
-narrow-requires-2 : tie.Need-narrow-requires-2
-narrow-requires-2 c κs = search needs
+-- both widths are four at most
+widths : (c : tie.After-narrow2) → (c .before .narrow .result ≤ 4) × (c .narrow2 .result ≤ 4)
+widths c =
+    let a = c .before .before .before .before .args in
+    (rw (c .before .narrow .ensures) (narrowest-le (a .number)), rw (c .narrow2 .ensures) (narrowest-le (a .length)))
 
 add-long-2 : tie.Need-add-long-2
-add-long-2 c =
-    omega (arith, c .before .narrow .ensures, c .narrow2 .ensures, narrowest-le (c .before .before .before .before .args .number), narrowest-le (c .before .before .before .before .args .length))
+add-long-2 c = omega (arith, widths c)
 
 add-long-3 : tie.Need-add-long-3
-add-long-3 c =
-    omega (arith, c .before .narrow .ensures, c .narrow2 .ensures, narrowest-le (c .before .before .before .before .args .number), narrowest-le (c .before .before .before .before .args .length))
-
-judge-requires : tie.Need-judge-requires
-judge-requires c κs = search needs
-
-enum-told : tie.Need-enum-told
-enum-told c = search needs
-
-data-first-requires : tie.Need-data-first-requires
-data-first-requires c κs = search needs
-
-enum-told-2 : tie.Need-enum-told-2
-enum-told-2 c = search needs
-
-same-length : tie.Need-same-length
-same-length c = search needs
+add-long-3 c = omega (arith, widths c)
 
 returns : tie.Need-returns
 returns c =
-    let a = c .before .before .before .before .before .before .before .before .before .before .before .args in
-    let judge = c .before .before .before .before .before .before .judge in
-    let width = c .before .before .before .before .before .before .before .before .narrow in
-    let width2 = c .before .before .before .before .before .before .before .narrow2 in
-    laid-so _ _ (judge .ensures) refl (omega (arith, width .ensures, width2 .ensures, length-data-first (a .number) (a .length) (now (a .block)))) (c .before .before .before .before .enum-told .given .1) (c .before .before .data-first .ensures .1)
+    let told = c .before .before .before .before in
+    (answer (told .before .before), laid-so _ _ (told .enum-told .given .1) (c .before .before .data-first .ensures .1))
 
 returns-2 : tie.Need-returns-2
-returns-2 c =
-    let a = c .before .before .before .before .before .before .before .args in
-    let judge = c .before .before .judge in
-    let width = c .before .before .before .before .narrow in
-    let width2 = c .before .before .before .narrow2 in
-    refused-so _ _ (judge .ensures) refl (omega (arith, width .ensures, width2 .ensures, length-data-first (a .number) (a .length) (now (a .block)))) (c .enum-told2 .given .1)
+returns-2 c = (answer (c .before .before), refused-so _ _ (c .enum-told2 .given .1))
 
 pub write-data-first-spec : {M : Type 1} → statement M
 write-data-first-spec =
     tie.close
     (tie.spec
-    narrow-requires
-    add-long
-    narrow-requires-2
-    add-long-2
-    add-long-3
-    judge-requires
-    enum-told
-    data-first-requires
-    enum-told-2
-    same-length
-    returns
-    returns-2)
+    (λ c κs. search needs) add-long (λ c κs. search needs) add-long-2 add-long-3 (λ c κs. search needs)
+    (λ c. search needs) (λ c κs. search needs) (λ c. search needs) (λ c. search needs) returns returns-2)

@@ -1,0 +1,6 @@
+pub mod Views
+pub mod Putting
+pub mod Places
+pub mod Frame
+pub mod Acts
+pub mod One

@@ -1,0 +1,234 @@
+-- What a turn says, put back where the channel was found, is what the rules make of the channel's view, saved.
+-- Assumes nothing.
+use mathlib.Core.Path.{_≡_, refl, sym, ap, subst, _∙_}
+use mathlib.Core.Bool.{Bool, true, false, cond}
+use mathlib.Core.List.{List}
+use mathlib.Core.Logic.{⊎-elim}
+use Prim.Native.Nat.{ℕ, _≤_, _<_}
+use native.Mathlib.Omega.{arith}
+use borrow.Author.Tests.{lt-ltb, le-ltb}
+use lib.Dec.{ltb}
+use lib.ListN.{length}
+use Rattle.paper.specs.Sizes.{PART, PARTS, STORE}
+use Rattle.lists.specs.Bytes.{zeros}
+use Rattle.lists.proofs.Cases.{lt-or-le, true-not-false}
+use Rattle.channel.specs.declared.Record.{Record}
+use Rattle.channel.specs.declared.Answer.{Answer}
+use Rattle.channel.specs.declared.Ask.{Ask}
+use Rattle.channel.specs.declared.Change.{Change}
+use Rattle.channel.specs.declared.Change.the-variants.{Stays, Becomes, Frees}
+use Rattle.channel.specs.declared.Part.{Part}
+use Rattle.channel.specs.declared.Part.the-variants.{Keeps, Takes, Clears}
+use Rattle.channel.specs.declared.Turn.{Turn}
+use Rattle.channel.specs.Channel.{
+  blank,
+  Act,
+  BadCreate,
+  Create,
+  Bring,
+  Closing,
+  LocalClose,
+  View,
+  Shut,
+  Open,
+  Room,
+  NoRoom,
+  Spare,
+  Did,
+  act,
+  opening,
+}
+use Rattle.channel.specs.Turns.{turnOf, viewOf, roomOf, actOf, partTold, replyTold}
+use Rattle.channel.proofs.Turns.{Comes, Tells, turn-rules, view-open as seen-open}
+use Rattle.table.specs.declared.Table.{Table}
+use Rattle.table.specs.Table.{numberPlace, freePlace, recordAt, withRecord, homePlace, siteOf, nextOf, putBack}
+use Rattle.table.proofs.Records.{with-past, at-past, number-holds}
+use Rattle.table.proofs.Twice.{holds-says}
+use Rattle.store.specs.Parts.{part, withPart, blockPut, partCleared}
+use Rattle.store.proofs.Parts.{there, put-there, cleared-there}
+use Rattle.connection.specs.States.{State, stateOf, view, viewAt, roomAt, roomIn, wrote, save, kept}
+use Rattle.connection.proofs.Views.{view-shut, view-open, room-none, own-part, wrote-own}
+
+-- ---- what `act` makes of a channel doesn't hang on the room, where it is open; and with no room none is opened
+
+any-room :
+    (level n : ℕ) (r s : Room) (row : Record) (part : List ℕ) (a : Act)
+    → act level n r (Open row part) a ≡ act level n s (Open row part) a
+unfolding act
+any-room level n r s row part BadCreate = refl
+any-room level n r s row part (Create listed pri) = refl
+any-room level n r s row part (Bring offer bytes) = refl
+any-room level n r s row part Closing = refl
+any-room level n r s row part LocalClose = refl
+
+no-room : (level n : ℕ) (a : Act) → act level n NoRoom Shut a .view ≡ Shut
+unfolding act opening
+no-room level n BadCreate = refl
+no-room level n (Create true pri) = refl
+no-room level n (Create false pri) = refl
+no-room level n (Bring offer bytes) = refl
+no-room level n Closing = refl
+no-room level n LocalClose = refl
+
+isShut : View → Bool
+isShut Shut = true
+isShut (Open r bytes) = false
+
+open-not-shut : (r : Record) (bytes : List ℕ) → Open r bytes ≡ Shut → ⊥
+unfolding isShut
+open-not-shut r bytes e = true-not-false (sym (ap isShut e))
+
+-- ---- the table
+
+pub put-stays :
+    (t : Table) (ready : Bool) (level k : ℕ) → length (t .records) ≡ PARTS
+    → putBack t ready level k Stays ≡ record { ready = ready; level = level; records = t .records }
+unfolding putBack siteOf nextOf
+put-stays t ready level k h =
+    ap (λ (x : Table). record { ready = ready; level = level; records = x .records }) (with-past t PARTS blank (rw h (omega arith)))
+
+put-becomes : (t : Table) (k : ℕ) (r : Record) → putBack t (t .ready) (t .level) k (Becomes r) ≡ withRecord t k r
+unfolding putBack siteOf nextOf withRecord
+put-becomes t k r = refl
+
+put-frees : (t : Table) (k : ℕ) → putBack t (t .ready) (t .level) k Frees ≡ withRecord t k blank
+unfolding putBack siteOf nextOf withRecord
+put-frees t k = refl
+
+-- ---- the store
+
+kept-part :
+    (store : List ℕ) (k : ℕ) (p : Part) (block : List ℕ) → length store ≡ STORE → k < PARTS
+    → kept store k p block ≡ withPart store k (partTold (part store k) block p)
+unfolding kept partTold
+kept-part store k Keeps block h l = sym (own-part store k h l)
+kept-part store k (Takes at) block h l = put-there store k at block (there store k h l)
+kept-part store k Clears block h l = cleared-there store k (there store k h l)
+
+-- what a turn leaves of the state
+abbrev pub left : Table → List ℕ → ℕ → List ℕ → Turn → State
+left t store k block turn = stateOf (putBack t (t .ready) (t .level) k (turn .change)) (kept store k (turn .part) block)
+
+-- ---- a channel that is open
+
+module _ (n : ℕ) (t : Table) (store : List ℕ) (k : ℕ) (row : Record) (long : length (t .records) ≡ PARTS) (h : length store ≡ STORE)
+    (l : k < PARTS) (e : k ≡ numberPlace n t) (f : row ≡ recordAt t k) (g : row .taken ≡ true) where
+  abbrev st : State
+  st = stateOf t store
+
+  open-saved :
+      (block : List ℕ) (turn : Turn) (new : View) → Comes row (part store k) block (turn .change) (turn .part) new
+      → save n st (Open row (part store k)) new ≡ left t store k block turn
+  unfolding save wrote kept
+  open-saved block turn new c = go (turn .change) (turn .part) c
+    where
+      go :
+          (change : Change) (p : Part) → Comes row (part store k) block change p new
+          → save n st (Open row (part store k)) new ≡ stateOf (putBack t (t .ready) (t .level) k change) (kept store k p block)
+      go Stays p x =
+          rw (x .0, x .1 ∙ seen-open row (part store k) g, put-stays t (t .ready) (t .level) k long)
+          (ap (λ (j : ℕ). wrote st j row (part store k)) (sym e) ∙ ap (λ (r : Record). wrote st k r (part store k)) f
+          ∙ wrote-own st k h l)
+      go (Becomes r) p x = rw (x, put-becomes t k r, kept-part store k p block h l, ← e) refl
+      go Frees p x = rw (x .2, x .0, put-frees t k, cleared-there store k (there store k h l), ← e) refl
+
+-- ---- a channel that is shut
+
+module _ (n : ℕ) (t : Table) (store : List ℕ) (k : ℕ) (row : Record) (long : length (t .records) ≡ PARTS) (h : length store ≡ STORE)
+    (e : k ≡ freePlace t) (f : row ≡ blank) where
+  shut-saved :
+      (block : List ℕ) (turn : Turn) (new : View) → (PARTS ≤ k → new ≡ Shut)
+      → Comes row (part store k) block (turn .change) (turn .part) new → save n (stateOf t store) Shut new ≡ left t store k block turn
+  unfolding save wrote kept viewOf
+  shut-saved block turn new none c = go (turn .change) (turn .part) c
+    where
+      go :
+          (change : Change) (p : Part) → Comes row (part store k) block change p new
+          → save n (stateOf t store) Shut new ≡ stateOf (putBack t (t .ready) (t .level) k change) (kept store k p block)
+      go Stays p x = rw (x .0, x .1, f, put-stays t (t .ready) (t .level) k long) refl
+      go (Becomes r) p x =
+          ⊎-elim
+          (λ (l : k < PARTS). rw (x, put-becomes t k r, kept-part store k p block h l, ← e) refl)
+          (λ (l : PARTS ≤ k). absurd (open-not-shut _ _ (sym x ∙ none l)))
+          (lt-or-le k PARTS)
+      go Frees p x = absurd (true-not-false (sym (x .1) ∙ ap (λ (r : Record). r .taken) f))
+
+-- ---- what is asked of a channel
+
+pub past-blank : (n : ℕ) (t : Table) → length (t .records) ≤ numberPlace n t → recordAt t (numberPlace n t) ≡ blank
+unfolding recordAt
+past-blank n t h = at-past (t .records) (numberPlace n t) h
+
+-- what a turn says is what was done to the channel: the state, the answer, and the bytes of the reply
+pub record Does (n : ℕ) (st next : State) (t : Turn) (v : View) (d : Did) : Type 0 where
+  pub state : save n st v (d .view) ≡ next
+  pub answer : Path Answer (t .answer) (d .answer)
+  pub reply : Path (List ℕ) (replyTold n (t .reply)) (d .reply)
+
+module _ (n : ℕ) (t : Table) (store : List ℕ) (long : length (t .records) ≡ PARTS) (h : length store ≡ STORE) where
+  abbrev pub home : ℕ
+  home = homePlace n t
+
+  abbrev pub found : Record
+  found = recordAt t (numberPlace n t)
+
+  abbrev here : State
+  here = stateOf t store
+
+  -- the rules, and the turn
+  abbrev pub rules : Ask → List ℕ → Did
+  rules ask block = act (t .level) n (roomIn (stateOf t store)) (view n (stateOf t store)) (actOf ask block)
+
+  abbrev pub taken : Ask → List ℕ → Turn
+  taken ask block = turnOf (t .level) n (ltb (homePlace n t) PARTS) (recordAt t (numberPlace n t)) ask (length block)
+
+  open-does :
+      (ask : Ask) (block : List ℕ) → numberPlace n t < PARTS
+      → Does n here (left t store home block (taken ask block)) (taken ask block) (view n here) (rules ask block)
+  unfolding homePlace
+  open-does ask block l =
+      let at-home : homePlace n t ≡ numberPlace n t = rw (lt-ltb (numberPlace n t) PARTS l) refl in
+      let is-open = holds-says n found (number-holds n t (rw long l)) .0 in
+      let place = numberPlace n t in
+      let sees = seen-open found (part store place) is-open in
+      let tells = rw (
+        at-home,
+        sees,
+        any-room (t .level) n (roomOf (ltb place PARTS) (part store place)) (roomIn here) found
+            (part store place) (actOf ask block),
+      ) at (turn-rules (t .level) n (ltb home PARTS) found (part store home) block ask
+      (length block) refl) in
+      rw (view-open n here place refl l, at-home)
+      (record {
+        state = open-saved n t store place found long h l refl refl is-open block (turnOf (t .level) n
+            (ltb place PARTS) found ask (length block)) _ (tells .view);
+        answer = tells .answer;
+        reply = tells .reply;
+      })
+
+  shut-does :
+      (ask : Ask) (block : List ℕ) → PARTS ≤ numberPlace n t
+      → Does n here (left t store home block (taken ask block)) (taken ask block) (view n here) (rules ask block)
+  unfolding homePlace roomIn roomAt roomOf viewOf
+  shut-does ask block l =
+      let at-home : homePlace n t ≡ freePlace t = rw (le-ltb (numberPlace n t) PARTS l) refl in
+      let free : found ≡ blank = past-blank n t (rw long l) in
+      let place = freePlace t in
+      let same : viewOf found (part store place) ≡ Shut = rw free refl in
+      let tells = subst (λ (v : View). Tells n found (part store place) block (turnOf (t .level) n (ltb place PARTS) found ask
+      (length block)) (act (t .level) n (roomIn here) v (actOf ask block))) same (turn-rules (t .level) n (ltb place PARTS) found
+      (part store place) block ask (length block) refl) in
+      let full : PARTS ≤ place → act (t .level) n (roomIn here) Shut (actOf ask block) .view ≡ Shut = λ m. ap (λ (r : Room). act
+      (t .level) n r Shut (actOf ask block) .view) (room-none here place refl m) ∙ no-room (t .level) n (actOf ask block) in
+      rw (view-shut n here (numberPlace n t) refl l, at-home)
+      (record {
+        state = shut-saved n t store place found long h refl free block (turnOf (t .level) n (ltb place PARTS) found ask
+            (length block)) _ full (tells .view);
+        answer = tells .answer;
+        reply = tells .reply;
+      })
+
+  pub turn-does :
+      (ask : Ask) (block : List ℕ)
+      → Does n here (left t store home block (taken ask block)) (taken ask block) (view n here) (rules ask block)
+  turn-does ask block = ⊎-elim (open-does ask block) (shut-does ask block) (lt-or-le (numberPlace n t) PARTS)

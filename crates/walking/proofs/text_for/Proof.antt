@@ -1,0 +1,61 @@
+-- `walking::text_for` meets its contract: each arm is a case of the definition.
+use Rattle.walking.specs.Walking.{textFor, roomFor}
+use borrow.Author.Needs.{needs}
+use Rattle.walking.proofs.text_for.Statement.{statement}
+use Rattle.walking.proofs.text_for.Tie as tie
+
+enum-told : tie.Need-enum-told
+enum-told c = search needs
+
+line-requires : tie.Need-line-requires
+line-requires c κs = search needs
+
+enum-told-2 : tie.Need-enum-told-2
+enum-told-2 c = search needs
+
+message-text-requires : tie.Need-message-text-requires
+message-text-requires c κs = search needs
+
+enum-told-3 : tie.Need-enum-told-3
+enum-told-3 c = search needs
+
+line-requires-2 : tie.Need-line-requires-2
+line-requires-2 c κs = search needs
+
+same-length : tie.Need-same-length
+same-length c = search needs
+
+returns : tie.Need-returns
+unfolding textFor roomFor
+returns c = rw (c .before .before .before .before .enum-told .given .1) (c .before .before .line .ensures)
+
+same-length-2 : tie.Need-same-length-2
+same-length-2 c = search needs
+
+returns-2 : tie.Need-returns-2
+unfolding textFor roomFor
+returns-2 c = rw (c .before .before .before .before .enum-told2 .given .1) (c .before .before .message-text .ensures)
+
+same-length-3 : tie.Need-same-length-3
+same-length-3 c = search needs
+
+returns-3 : tie.Need-returns-3
+unfolding textFor roomFor
+returns-3 c = rw (c .before .before .before .before .enum-told3 .given .1) (c .before .before .line2 .ensures)
+
+pub text-for-spec : {M : Type 1} → statement M
+text-for-spec =
+    tie.close
+    (tie.spec
+    enum-told
+    line-requires
+    enum-told-2
+    message-text-requires
+    enum-told-3
+    line-requires-2
+    same-length
+    returns
+    same-length-2
+    returns-2
+    same-length-3
+    returns-3)
