@@ -17,14 +17,22 @@ noCalls = counts 0 0 0 0 0 0 0 0
 
 -- one more call for the answer's word
 abbrev pub tallied : Tally → Answer → Tally
-tallied t (Ready level) = counts (plus (t .ready) 1) (t .opened) (t .declined) (t .held) (t .message) (t .closed) (t .ignored) (t .refused)
-tallied t (Opened n) = counts (t .ready) (plus (t .opened) 1) (t .declined) (t .held) (t .message) (t .closed) (t .ignored) (t .refused)
-tallied t (Declined n why) = counts (t .ready) (t .opened) (plus (t .declined) 1) (t .held) (t .message) (t .closed) (t .ignored) (t .refused)
-tallied t (Held n left) = counts (t .ready) (t .opened) (t .declined) (plus (t .held) 1) (t .message) (t .closed) (t .ignored) (t .refused)
-tallied t (Message n len) = counts (t .ready) (t .opened) (t .declined) (t .held) (plus (t .message) 1) (t .closed) (t .ignored) (t .refused)
-tallied t (Closed n) = counts (t .ready) (t .opened) (t .declined) (t .held) (t .message) (plus (t .closed) 1) (t .ignored) (t .refused)
-tallied t (Ignored n) = counts (t .ready) (t .opened) (t .declined) (t .held) (t .message) (t .closed) (plus (t .ignored) 1) (t .refused)
-tallied t (Refused why concern) = counts (t .ready) (t .opened) (t .declined) (t .held) (t .message) (t .closed) (t .ignored) (plus (t .refused) 1)
+tallied t (Ready level) =
+    counts (plus (t .ready) 1) (t .opened) (t .declined) (t .held) (t .message) (t .closed) (t .ignored) (t .refused)
+tallied t (Opened n) =
+    counts (t .ready) (plus (t .opened) 1) (t .declined) (t .held) (t .message) (t .closed) (t .ignored) (t .refused)
+tallied t (Declined n why) =
+    counts (t .ready) (t .opened) (plus (t .declined) 1) (t .held) (t .message) (t .closed) (t .ignored) (t .refused)
+tallied t (Held n left) =
+    counts (t .ready) (t .opened) (t .declined) (plus (t .held) 1) (t .message) (t .closed) (t .ignored) (t .refused)
+tallied t (Message n len) =
+    counts (t .ready) (t .opened) (t .declined) (t .held) (plus (t .message) 1) (t .closed) (t .ignored) (t .refused)
+tallied t (Closed n) =
+    counts (t .ready) (t .opened) (t .declined) (t .held) (t .message) (plus (t .closed) 1) (t .ignored) (t .refused)
+tallied t (Ignored n) =
+    counts (t .ready) (t .opened) (t .declined) (t .held) (t .message) (t .closed) (plus (t .ignored) 1) (t .refused)
+tallied t (Refused why concern) =
+    counts (t .ready) (t .opened) (t .declined) (t .held) (t .message) (t .closed) (t .ignored) (plus (t .refused) 1)
 
 -- all calls
 abbrev pub sumOf : Tally → ℕ

@@ -30,7 +30,8 @@ use Rattle.channel.specs.declared.Reply.{Reply}
 use Rattle.channel.specs.declared.Reply.the-variants.{NoReply, Version, Status, CloseBack}
 use Rattle.channel.specs.declared.Turn.{Turn}
 use Rattle.channel.specs.Stages.{took}
-use Rattle.channel.specs.Channel.{Act, BadCreate, Create, Bring, Closing, LocalClose, View, Shut, Open, Room, NoRoom, Spare, openedRecord, restaged, stageAfter, answerTo}
+use Rattle.channel.specs.Channel.{Act, BadCreate, Create, Bring, Closing, LocalClose, View, Shut, Open, Room}
+use Rattle.channel.specs.Channel.{NoRoom, Spare, openedRecord, restaged, stageAfter, answerTo}
 
 -- ---- the turns
 

@@ -8,7 +8,7 @@ use paper::Refusal;
 ghost use mathlib.Core.Path.{_≡_};
 ghost use Prim.Native.Nat.{_-_};
 ghost use Rattle.channel.specs.Answers.{concernOf, numberOf};
-ghost use Rattle.channel.specs.Stages.{added, begun, took};
+ghost use Rattle.channel.specs.Stages.{added, tookFirst, took};
 ghost use Rattle.channel.specs.Channel.{classAt, openedRecord, restaged};
 ghost use Rattle.channel.specs.Turns.{answering, declining, creating, landing, bringing, closing, turnOf};
 
@@ -105,7 +105,7 @@ fn add(wanted: u16, held: u16, n: usize) -> Took
 
 // A Data First on an idle channel: a message of `length` bytes begins with a block of n.
 fn begin(length: u32, n: usize) -> Took
-    ensures { λ r. ⌜ r ≡ begun length n ⌝ }
+    ensures { λ r. ⌜ r ≡ tookFirst length n ⌝ }
 {
     if MESSAGE_MAX < length as usize {
         return Took::Spoils(Refusal::OverLimit);
@@ -386,6 +386,6 @@ pub fn value(answer: Answer) -> u64
         Answer::Message { number: _, len } => len as u64,
         Answer::Closed { number: _ } => 0,
         Answer::Ignored { number: _ } => 0,
-        Answer::Refused { why, concern: _ } => paper::number(why) as u64,
+        Answer::Refused { why, concern: _ } => paper::refusal_number(why) as u64,
     }
 }

@@ -9,7 +9,7 @@ use native.Mathlib.Omega.{arith}
 use lib.ListN.{length, take, drop, length-drop, drop-of-length-le}
 use Rattle.lists.proofs.Cases.{lt-or-le}
 use Rattle.lists.proofs.Laid.{from-to, take-least}
-use Rattle.reading.specs.declared.Place.{Place}
+use Rattle.reading.specs.declared.Extent.{Extent}
 use Rattle.reading.specs.declared.Pdu.{Pdu}
 use Rattle.reading.specs.declared.Pdu.the-variants.{
   CreateRequest,
@@ -63,7 +63,7 @@ drop-least at pdu =
 
 -- the bytes at a place, as far as there are any
 pub clipped :
-    (pdu : List ℕ) (place : Place) (at n : ℕ) → at ≡ min (place .at) (length pdu) → n ≡ min (place .len) (length pdu - at)
+    (pdu : List ℕ) (place : Extent) (at n : ℕ) → at ≡ min (place .at) (length pdu) → n ≡ min (place .len) (length pdu - at)
     → take (at + n - at) (drop at pdu) ≡ bytesAt pdu place
 unfolding bytesAt
 clipped pdu place at n e f =

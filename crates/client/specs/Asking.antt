@@ -5,9 +5,10 @@ use mathlib.Core.Bool.{true, false, cond}
 use mathlib.Core.List.{List}
 use Rattle.paper.specs.declared.Refusal.the-variants.{WrongTime}
 use Rattle.reading.specs.Said.{bytesAt}
-use Rattle.reading.specs.declared.Place.{Place}
+use Rattle.reading.specs.declared.Extent.{Extent}
 use Rattle.reading.specs.declared.Pdu.{Pdu}
-use Rattle.reading.specs.declared.Pdu.the-variants.{CreateRequest, CreateResponse, DataFirst, Data, Close, CapsRequest, CapsResponse, Refused}
+use Rattle.reading.specs.declared.Pdu.the-variants.{CreateRequest, CreateResponse, DataFirst, Data, Close}
+use Rattle.reading.specs.declared.Pdu.the-variants.{CapsRequest, CapsResponse, Refused}
 use Rattle.listeners.specs.Listeners.{goodList, isListed}
 use Rattle.channel.specs.declared.Offer.the-variants.{First, More}
 use Rattle.channel.specs.declared.Ask.{Ask}
@@ -31,10 +32,10 @@ eventAsked asked pdu = told (asked .number) (asked .matter) (bytesAt pdu (asked 
 -- ---- what a PDU asks, and what a close by the host asks
 
 -- no block
-abbrev pub nowhere : Place
+abbrev pub nowhere : Extent
 nowhere = record { at = 0; len = 0 }
 
-abbrev pub asking : ℕ → Matter → Place → Asked
+abbrev pub asking : ℕ → Matter → Extent → Asked
 asking n matter block = record { number = n; matter = matter; block = block }
 
 unfoldable pub createAsk : List ℕ → List ℕ → ℕ → Ask

@@ -7,7 +7,8 @@ use Rattle.paper.specs.declared.Refusal.{Refusal}
 use Rattle.paper.specs.declared.Refusal.the-variants.{WrongTime}
 use Rattle.reading.specs.Said.{bytesAt}
 use Rattle.reading.specs.declared.Pdu.{Pdu}
-use Rattle.reading.specs.declared.Pdu.the-variants.{CreateRequest, CreateResponse, DataFirst, Data, Close, CapsRequest, CapsResponse, Refused}
+use Rattle.reading.specs.declared.Pdu.the-variants.{CreateRequest, CreateResponse, DataFirst, Data, Close}
+use Rattle.reading.specs.declared.Pdu.the-variants.{CapsRequest, CapsResponse, Refused}
 use Rattle.listeners.specs.Listeners.{goodList, isListed}
 use Rattle.channel.specs.declared.Offer.the-variants.{First, More}
 use Rattle.channel.specs.Channel.{Act, BadCreate, Create, Bring, Closing, LocalClose}

@@ -11,8 +11,8 @@ use channel::Reply;
 use deciding::Matter;
 use paper::PARTS;
 use paper::Refusal;
+use reading::Extent;
 use reading::Pdu;
-use reading::Place;
 use table::Table;
 ghost use mathlib.Core.Path.{_≡_};
 ghost use mathlib.Core.Bool.{true};
@@ -53,14 +53,14 @@ pub struct Received {
 pub struct Asked {
     pub number: u32,
     pub matter: Matter,
-    pub block: Place,
+    pub block: Extent,
 }
 
 // What is asked with no block.
 fn bare(number: u32, matter: Matter) -> Asked
     ensures { λ r. ⌜ r ≡ record { number = number; matter = matter; block = nowhere } ⌝ }
 {
-    let block = Place { at: 0, len: 0 };
+    let block = Extent { at: 0, len: 0 };
     Asked {
         number,
         matter,
@@ -245,9 +245,12 @@ pub fn start(store: &mut [u8]) -> Started
 // A call: refusal 1, and behind it what is asked. The block is the bytes of the PDU at its place, as far as there are any.
 // `receive` and `local_close` are faces of this one. A program is quickest that calls it, from one place.
 pub fn step(table: Table, store: &mut [u8], asked: Asked, pdu: &[u8], reply: &mut [u8]) -> Received
-    ensures { λ r. ⌜ r ≡ called table (now (store .entry)) (eventAsked asked (now (pdu .entry))) (now (reply .entry)) .result ⌝ }
-    ensures { λ _. ⌜ now (store .exit) ≡ called table (now (store .entry)) (eventAsked asked (now (pdu .entry))) (now (reply .entry)) .store ⌝ }
-    ensures { λ _. ⌜ now (reply .exit) ≡ called table (now (store .entry)) (eventAsked asked (now (pdu .entry))) (now (reply .entry)) .reply ⌝ }
+    ensures { λ r. ⌜ r ≡ called table (now (store .entry))
+        (eventAsked asked (now (pdu .entry))) (now (reply .entry)) .result ⌝ }
+    ensures { λ _. ⌜ now (store .exit) ≡ called table (now (store .entry))
+        (eventAsked asked (now (pdu .entry))) (now (reply .entry)) .store ⌝ }
+    ensures { λ _. ⌜ now (reply .exit) ≡ called table (now (store .entry))
+        (eventAsked asked (now (pdu .entry))) (now (reply .entry)) .reply ⌝ }
 {
     if bad_call(table, store.len(), reply.len()) {
         return refused(table);
@@ -267,9 +270,12 @@ pub fn receive(
     pdu: &[u8],
     reply: &mut [u8],
 ) -> Received
-    ensures { λ r. ⌜ r ≡ received table (now (store .entry)) (now (list .entry)) (now (pdu .entry)) (now (reply .entry)) .result ⌝ }
-    ensures { λ _. ⌜ now (store .exit) ≡ received table (now (store .entry)) (now (list .entry)) (now (pdu .entry)) (now (reply .entry)) .store ⌝ }
-    ensures { λ _. ⌜ now (reply .exit) ≡ received table (now (store .entry)) (now (list .entry)) (now (pdu .entry)) (now (reply .entry)) .reply ⌝ }
+    ensures { λ r. ⌜ r ≡ received table (now (store .entry))
+        (now (list .entry)) (now (pdu .entry)) (now (reply .entry)) .result ⌝ }
+    ensures { λ _. ⌜ now (store .exit) ≡ received table (now (store .entry))
+        (now (list .entry)) (now (pdu .entry)) (now (reply .entry)) .store ⌝ }
+    ensures { λ _. ⌜ now (reply .exit) ≡ received table (now (store .entry))
+        (now (list .entry)) (now (pdu .entry)) (now (reply .entry)) .reply ⌝ }
 {
     step(table, store, heard(list, pdu), pdu, reply)
 }

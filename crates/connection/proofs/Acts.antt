@@ -18,7 +18,7 @@ use Rattle.channel.specs.declared.Offer.{Offer}
 use Rattle.channel.specs.declared.Offer.the-variants.{First, More}
 use Rattle.channel.specs.declared.Took.{Took}
 use Rattle.channel.specs.declared.Took.the-variants.{Bars, Spoils, Holds, Finishes}
-use Rattle.channel.specs.Stages.{added, begun, took}
+use Rattle.channel.specs.Stages.{added, tookFirst, took}
 use Rattle.channel.specs.Channel.{
   Act,
   BadCreate,
@@ -66,7 +66,7 @@ added-good wanted held n h =
     (λ f. (omega (arith, ltb-false wanted (held + n) e, eqb-false (held + n) wanted f), h)))
 
 took-good : (s : Stage) (offer : Offer) (n : ℕ) → goodStage s ≡ true → GoodTook (took s offer n)
-unfolding took begun
+unfolding took tookFirst
 took-good Idle (First len) n g = choice GoodTook (ltb MESSAGE-MAX len) (λ e. tt) (λ e. added-good len 0 n (ltb-false MESSAGE-MAX len e))
 took-good Idle More n g = tt
 took-good (Joining wanted held) (First len) n g = tt

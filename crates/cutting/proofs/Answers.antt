@@ -14,7 +14,8 @@ use Rattle.paper.specs.declared.Refusal.the-variants.{BadCall, OverLimit, NoSta
 use Rattle.lists.specs.Bytes.{laid}
 use Rattle.lists.proofs.Cases.{choice}
 use Rattle.lists.proofs.Laid.{front}
-use Rattle.cutting.specs.Cutting.{blockEnd, isStart, cutPdu, cutAt, bufferAfter, cutBuffer, LENGTH-UNIT, packed}
+use Rattle.laying.specs.Laying.{bufferAfter}
+use Rattle.cutting.specs.Cutting.{blockEnd, isStart, cutPdu, cutAt, outcome, cutBuffer, LENGTH-UNIT, packed}
 use Rattle.cutting.specs.Cutting.{refusalOf, unpacked}
 use Rattle.cutting.specs.declared.Piece.{Piece}
 use Rattle.cutting.specs.declared.Piece.the-variants.{Pdu, Refused}
@@ -30,12 +31,12 @@ module _ (number : ℕ) (message : List ℕ) (offset : ℕ) (out : List ℕ) whe
 
   -- 1
   pub short-buffer : length out < PDU-MAX → Answers (Refused BadCall) out
-  unfolding cutBuffer bufferAfter cutAt
+  unfolding cutBuffer bufferAfter outcome cutAt
   short-buffer h = let e = lt-ltb (length out) PDU-MAX h in (rw e, rw e)
 
   -- 11
   pub long-message : PDU-MAX ≤ length out → MESSAGE-MAX < length message → Answers (Refused OverLimit) out
-  unfolding cutBuffer bufferAfter cutAt
+  unfolding cutBuffer bufferAfter outcome cutAt
   long-message h k =
       let e = le-ltb (length out) PDU-MAX h in
       let f = lt-ltb MESSAGE-MAX (length message) k in
@@ -44,7 +45,7 @@ module _ (number : ℕ) (message : List ℕ) (offset : ℕ) (out : List ℕ) whe
   -- 14
   pub no-start : PDU-MAX ≤ length out → length message ≤ MESSAGE-MAX → isStart number (length message) offset ≡ false
       → Answers (Refused NoStart) out
-  unfolding cutBuffer bufferAfter cutAt
+  unfolding cutBuffer bufferAfter outcome cutAt
   no-start h k s =
       let e = le-ltb (length out) PDU-MAX h in
       let f = le-ltb MESSAGE-MAX (length message) k in
@@ -54,7 +55,7 @@ module _ (number : ℕ) (message : List ℕ) (offset : ℕ) (out : List ℕ) whe
   pub at-start : PDU-MAX ≤ length out → length message ≤ MESSAGE-MAX → isStart number (length message) offset ≡ true
       → Answers (Pdu (length (cutPdu number message offset)) (blockEnd number (length message) offset))
       (laid out 0 (cutPdu number message offset))
-  unfolding cutBuffer bufferAfter cutAt
+  unfolding cutBuffer bufferAfter outcome cutAt
   at-start h k s =
       let e = le-ltb (length out) PDU-MAX h in
       let f = le-ltb MESSAGE-MAX (length message) k in

@@ -10,12 +10,12 @@ use Rattle.paper.specs.Sizes.{PDU-MAX, MESSAGE-MAX}
 use Rattle.paper.specs.Rows.{fine, refusedWith, firstHeld, comesTo}
 use Rattle.paper.specs.declared.Refusal.{Refusal}
 use Rattle.paper.specs.declared.Refusal.the-variants.{BadCall, OverLimit, NoStart}
+use Rattle.laying.specs.Laying.{bufferAfter}
 use Rattle.cutting.specs.Cutting.{
   blockEnd,
   isStart,
   cutPdu,
   cutAt,
-  bufferAfter,
   cutBuffer,
   Lengths,
   lengthsAt,
@@ -40,5 +40,5 @@ module _ (number : ℕ) (message : List ℕ) (offset : ℕ) (out : List ℕ) whe
       go false false false = refl
 
   pub cutting-leaves : (why : Refusal) → cutAt number message offset out ≡ Refused why → cutBuffer number message offset out ≡ out
-  unfolding bufferAfter cutBuffer
-  cutting-leaves why e = ap (λ (p : Piece). bufferAfter p (cutPdu number message offset) out) e
+  unfolding outcome bufferAfter cutBuffer
+  cutting-leaves why e = ap (λ (p : Piece). bufferAfter (outcome p) (cutPdu number message offset) out) e

@@ -6,12 +6,11 @@ use lib.Dec.{ltb, eqb}
 use lib.ListN.{length, take, drop}
 use Rattle.paper.specs.Sizes.{PDU-MAX, MESSAGE-MAX, WHOLE-MAX}
 use Rattle.paper.specs.Refusals.{refusalNumber}
-use Rattle.paper.specs.Rows.{Row, row, Outcome, done, refusal}
+use Rattle.paper.specs.Rows.{refuse, Row, row, Outcome, done, refusal}
 use Rattle.paper.specs.declared.Refusal.{Refusal}
 use Rattle.paper.specs.declared.Refusal.the-variants.{BadCall, OverLimit, NoStart}
-use Rattle.lists.specs.Bytes.{laid}
 use Rattle.numbers.specs.Numbers.{narrowest}
-use Rattle.laying.specs.Laying.{dataBytes, dataFirstBytes}
+use Rattle.laying.specs.Laying.{dataBytes, dataFirstBytes, bufferAfter}
 use Rattle.cutting.specs.declared.Piece.{Piece}
 use Rattle.cutting.specs.declared.Piece.the-variants.{Pdu, Refused}
 
@@ -55,43 +54,36 @@ cutPdu number message at =
     (dataFirstBytes number (length message) (block number message at))
     (dataBytes number (block number message at))
 
--- the refusal where the test holds, and else the rest
-abbrev pub refuse : Refusal → Bool → Piece → Piece
-refuse why test rest = cond test (Refused why) rest
-
 -- "Cutting: 1, 11, 14." 1: the buffer is not of its size; 11: "a message over 4,096"; 14: "Any other offset".
 -- "The answer is the PDU's length and the next offset."
 unfoldable pub cutAt : ℕ → List ℕ → ℕ → List ℕ → Piece
 cutAt number message offset out =
-    refuse BadCall (ltb (length out) PDU-MAX)
-    (refuse OverLimit (ltb MESSAGE-MAX (length message))
-    (refuse NoStart (not (isStart number (length message) offset))
+    refuse (Refused BadCall) (ltb (length out) PDU-MAX)
+    (refuse (Refused OverLimit) (ltb MESSAGE-MAX (length message))
+    (refuse (Refused NoStart) (not (isStart number (length message) offset))
     (Pdu (length (cutPdu number message offset)) (blockEnd number (length message) offset))))
 
--- "Bytes of a reply or PDU buffer behind the written ones stay." "Store, reply
--- and PDU buffer are unchanged by every refusal."
-unfoldable pub bufferAfter : Piece → List ℕ → List ℕ → List ℕ
-bufferAfter (Pdu len next) pdu out = laid out 0 pdu
-bufferAfter (Refused why) pdu out = out
-
-unfoldable pub cutBuffer : ℕ → List ℕ → ℕ → List ℕ → List ℕ
-cutBuffer number message offset out = bufferAfter (cutAt number message offset out) (cutPdu number message offset) out
-
--- ---- the answer in the paper's terms, and the refusals as rows
+-- ---- the answer in the paper's terms, and the buffer
 
 -- "the PDU's length and the next offset"
 pub record Lengths : Type 0 where
   pub pdu : ℕ
   pub next : ℕ
 
+unfoldable pub outcome : Piece → Outcome Lengths
+outcome (Pdu len next) = done (record { pdu = len; next = next })
+outcome (Refused why) = refusal (refusalNumber why)
+
+unfoldable pub cutBuffer : ℕ → List ℕ → ℕ → List ℕ → List ℕ
+cutBuffer number message offset out =
+    bufferAfter (outcome (cutAt number message offset out)) (cutPdu number message offset) out
+
+-- ---- the refusals as rows
+
 -- at a start
 abbrev pub lengthsAt : ℕ → List ℕ → ℕ → Lengths
 lengthsAt number message offset =
     record { pdu = length (cutPdu number message offset); next = blockEnd number (length message) offset }
-
-unfoldable pub outcome : Piece → Outcome Lengths
-outcome (Pdu len next) = done (record { pdu = len; next = next })
-outcome (Refused why) = refusal (refusalNumber why)
 
 -- "Cutting: 1, 11, 14."
 unfoldable pub cuttingRows : ℕ → List ℕ → ℕ → List ℕ → List Row

@@ -117,6 +117,6 @@ pub extern "C" fn dvc_cut(number: u32, message: &[u8], offset: usize, out: &mut 
     let piece = cut(number, message, offset, out);
     match piece {
         Piece::Pdu { len, next } => len as u32 * LENGTH_UNIT + next as u32,
-        Piece::Refused(why) => paper::number(why) as u32,
+        Piece::Refused(why) => paper::refusal_number(why) as u32,
     }
 }

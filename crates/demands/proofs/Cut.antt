@@ -28,7 +28,7 @@ use Rattle.channel.specs.declared.Concern.the-variants.{NoChannel}
 use Rattle.channel.specs.declared.Answer.the-variants.{Held, Message, Refused}
 use Rattle.channel.specs.declared.Took.{Took}
 use Rattle.channel.specs.declared.Took.the-variants.{Holds, Finishes}
-use Rattle.channel.specs.Stages.{added, begun, took}
+use Rattle.channel.specs.Stages.{added, tookFirst, took}
 use Rattle.channel.specs.Channel.{Bring, View, Open, Room, restaged, stageAfter, partAfter, answerTo, landed, act}
 use Rattle.connection.specs.States.{State, view, roomIn, Steady}
 use Rattle.client.specs.Events.{Event, Unreadable, Capabilities, Of, isOf}
@@ -158,7 +158,7 @@ module _ (n : ℕ) (m : List ℕ) (small-number : n < NUMBERS) (short-enough : l
   took-at :
       (at : ℕ) (s : Stage) → StageAt at s → at ≤ length m → (t : Bool) → isFirst (length m) at ≡ t
       → took s (cond t (First (length m)) More) (length (block n m at)) ≡ cond (ltb (blockEnd n (length m) at) (length m)) (Holds (length m) at (blockEnd n (length m) at)) (Finishes at (length m))
-  unfolding took begun
+  unfolding took tookFirst
   took-at at Idle e h true f = rw (le-ltb MESSAGE-MAX (length m) short-enough, ← e) (added-at at h)
   took-at at Idle e h false f = rw e (one-block (rw e at f))
   took-at at (Joining wanted held) e h true f = absurd (true-not-false (sym f ∙ later-data (length m) at (e .0)))

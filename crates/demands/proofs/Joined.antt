@@ -18,7 +18,7 @@ use Rattle.lists.proofs.Cases.{choice, lt-or-le}
 use Rattle.lists.proofs.Laid.{laid-eq, length-laid, length-zeros, front}
 use Rattle.reading.specs.Reading.{readPdu}
 use Rattle.reading.specs.Said.{bytesAt}
-use Rattle.reading.specs.declared.Place.{Place}
+use Rattle.reading.specs.declared.Extent.{Extent}
 use Rattle.reading.specs.declared.Pdu.{Pdu}
 use Rattle.reading.specs.declared.Pdu.the-variants.{CreateRequest, CreateResponse, DataFirst, Data, Close, CapsRequest, CapsResponse, Refused}
 use Rattle.reading.proofs.Placed.{Placed, placed}
@@ -29,12 +29,12 @@ use Rattle.channel.specs.declared.Record.{Record}
 use Rattle.channel.specs.declared.Offer.{Offer}
 use Rattle.channel.specs.declared.Offer.the-variants.{First, More}
 use Rattle.channel.specs.declared.Took.the-variants.{Bars, Spoils, Holds, Finishes}
-use Rattle.channel.specs.Stages.{added, begun, took}
+use Rattle.channel.specs.Stages.{added, tookFirst, took}
 use Rattle.channel.specs.Channel.{Act, BadCreate, Create, Bring, Closing, LocalClose, View, Shut, Open, Did, openedRecord, restaged, opening, stageAfter, partAfter, answerTo, landed, act}
 use Rattle.table.specs.Sound.{goodStage}
 use Rattle.table.proofs.Soundness.{joining-bounds, joining-good}
 use Rattle.client.specs.Events.{Event, Unreadable, Capabilities, Of, createAct, eventOf}
-use Rattle.demands.specs.Runs.{Asked, receives, closes, firstOf, eventIn}
+use Rattle.demands.specs.Runs.{Entry, receives, closes, firstOf, eventIn}
 use Rattle.demands.specs.Joining.{Join, Off, Waiting, Gathering, Dead, Brings, NoMessage, StillToCome, Complete, Joined, still, gathered, startsWith, goesOn, joins, broughtBy, brought}
 use Rattle.demands.proofs.Machine.{roomFlag, toldBy}
 
@@ -118,8 +118,8 @@ module _ (n : ℕ) (r : Record) (part : List ℕ) (whole : length part ≡ PART)
 
   -- ---- data, by stage
 
-  first-agrees : (len : ℕ) (block : List ℕ) → Agrees (landed n r part block (begun len (length block))) (startsWith (First len) block)
-  unfolding begun startsWith
+  first-agrees : (len : ℕ) (block : List ℕ) → Agrees (landed n r part block (tookFirst len (length block))) (startsWith (First len) block)
+  unfolding tookFirst startsWith
   first-agrees len block = go (ltb MESSAGE-MAX len) refl
     where
       go :
@@ -217,7 +217,7 @@ long-unread fromServer pdu h =
     let some : length pdu ≡ 0 → ⊥ = λ e. omega arith in
     simp (ne-eqb (length pdu) 0 some, lt-ltb PDU-MAX (length pdu) h)
 
-block-fits : (pdu : List ℕ) (p : Place) → p .at + p .len ≡ length pdu → length pdu ≤ PDU-MAX → length (bytesAt pdu p) ≤ PART
+block-fits : (pdu : List ℕ) (p : Extent) → p .at + p .len ≡ length pdu → length pdu ≤ PDU-MAX → length (bytesAt pdu p) ≤ PART
 unfolding bytesAt
 block-fits pdu p h k = simp (length-take, length-drop) (omega (arith, pdu-part))
 
@@ -247,7 +247,7 @@ read-blocks list pdu =
     (λ (h : length pdu ≤ PDU-MAX). short-blocks list pdu h (readPdu true pdu) (placed pdu true))
     (lt-or-le PDU-MAX (length pdu))
 
-pub call-blocks : (a : Asked) → FineBlock (eventIn a)
+pub call-blocks : (a : Entry) → FineBlock (eventIn a)
 unfolding eventIn
 call-blocks (receives list pdu) = read-blocks list pdu
 call-blocks (closes n) = tt

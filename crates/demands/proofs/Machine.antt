@@ -40,7 +40,7 @@ use Rattle.steps.proofs.Channels.{step-answer, step-reply, step-state, step-own
 use Rattle.steps.proofs.Calm.{sane-steady, steady-sane, calm-step, fine-pdu}
 use Rattle.channel.specs.declared.Concern.the-variants.{NoChannel}
 use Rattle.demands.proofs.Traces.{Framed}
-use Rattle.demands.specs.Runs.{Asked, receives, closes, Call, gives, after, firstOf, handedUp, Told, told, eventIn, isEventOf, fullTable, asksRoom, eventMeetsFull, meetsFull, Running}
+use Rattle.demands.specs.Runs.{Entry, receives, closes, Call, gives, after, firstOf, handedUp, Told, told, eventIn, isEventOf, fullTable, asksRoom, eventMeetsFull, meetsFull, Running}
 
 pub steady : (l : ℕ) (st : State) → Running l st → Steady st
 steady l st g = sane-steady st (g .calm .sane) (g .ready)
@@ -56,11 +56,11 @@ pub call-step : (st : State) (c : Call) → Sane st → gives st (c .asked) (c .
 unfolding gives eventIn received locallyClosed
 call-step st c s = go (c .asked)
   where
-    go : (a : Asked) → gives st a (c .reply) ≡ wholeOf (c .reply) (stepped st (eventIn a))
+    go : (a : Entry) → gives st a (c .reply) ≡ wholeOf (c .reply) (stepped st (eventIn a))
     go (receives list pdu) = passes (st .table) (st .store) (c .reply) (stepped st (eventOf list pdu (readPdu true pdu))) (not-bad st c s)
     go (closes n) = passes (st .table) (st .store) (c .reply) (stepped st (Of n LocalClose)) (not-bad st c s)
 
-pub fine-call : (a : Asked) → FineEvent (eventIn a)
+pub fine-call : (a : Entry) → FineEvent (eventIn a)
 unfolding eventIn
 fine-call (receives list pdu) = fine-pdu list pdu
 fine-call (closes n) = tt

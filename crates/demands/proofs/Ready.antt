@@ -10,7 +10,7 @@ use Rattle.lists.specs.Bytes.{zeros}
 use Rattle.lists.proofs.Laid.{length-zeros}
 use Rattle.numbers.specs.Numbers.{little, valueOf, valueAt}
 use Rattle.reading.specs.Grammar.{noCharges}
-use Rattle.reading.specs.Reading.{readPdu, byCommand, capabilities, byVersion, charged}
+use Rattle.reading.specs.Reading.{readPdu, byCommand, capabilities, badVersion, byVersion, charged}
 use Rattle.reading.specs.declared.Pdu.the-variants.{CapsRequest}
 use Rattle.connection.specs.States.{State}
 use Rattle.demands.specs.Runs.{receives, Call, after, startedOn, JustReady}
@@ -19,7 +19,7 @@ hello : List ℕ
 hello = 0x50 ∷ 0 ∷ 1 ∷ 0 ∷ []
 
 read-hello : readPdu true hello ≡ CapsRequest 1 noCharges
-unfolding hello readPdu byCommand capabilities byVersion charged little valueOf valueAt PDU-MAX
+unfolding hello readPdu byCommand capabilities badVersion byVersion charged little valueOf valueAt PDU-MAX
 read-hello = refl
 
 asking : Call

@@ -18,7 +18,7 @@ use Rattle.listeners.specs.Listeners.{names, ended, noneEmpty, sameBytes, isOne
 use Rattle.cutting.specs.Cutting.{isFirst, headerLen, blockLen, blockEnd, meets, isStart, block, cutPdu, cutAt, cutBuffer}
 use Rattle.cutting.specs.declared.Piece.the-variants.{Pdu}
 use Rattle.cutting.proofs.Answers.{given}
-use Rattle.channel.specs.Stages.{added, begun, took}
+use Rattle.channel.specs.Stages.{added, tookFirst, took}
 use Rattle.channel.specs.Channel.{act}
 use Rattle.client.specs.Events.{createAct}
 use Rattle.demands.specs.Cut.{Cut, cutOf, Cuts, last-one, one-more}
@@ -92,6 +92,6 @@ cuts-4096 =
     (last 5 (zeros 4096) 3194 904 4096 DATA refl refl (lit≤ tt))))
 
 pub the-starred-numbers : Starred
-unfolding PDU-MAX MESSAGE-MAX LIST-MAX zeros place little valueOf valueAt widthOf closing afterNumber badLengthWidth numbered byCommand readPdu names ended noneEmpty sameBytes isOneOf allNames goodList isListed createAct act added begun took reading answering taking CaseHolds starred Starred
+unfolding PDU-MAX MESSAGE-MAX LIST-MAX zeros place little valueOf valueAt widthOf closing afterNumber badLengthWidth numbered byCommand readPdu names ended noneEmpty sameBytes isOneOf allNames goodList isListed createAct act added tookFirst took reading answering taking CaseHolds starred Starred
 the-starred-numbers =
     (refl, (refl, (refl, (refl, (refl, (refl, (refl, (cuts-1590, (cuts-1591, (cuts-1596, (cuts-1597, (cuts-4096, (refl, (refl, tt))))))))))))))

@@ -24,21 +24,21 @@ use Rattle.channel.specs.declared.Decline.the-variants.{Full}
 use Rattle.channel.specs.declared.Concern.the-variants.{NoChannel, Channel}
 use Rattle.channel.specs.declared.Answer.{Answer}
 use Rattle.channel.specs.declared.Answer.the-variants.{Ready, Opened, Declined, Held, Message, Closed, Ignored, Refused}
-use Rattle.channel.specs.Stages.{added, begun, took}
+use Rattle.channel.specs.Stages.{added, tookFirst, took}
 use Rattle.channel.specs.Channel.{Act, BadCreate, Create, Bring, Closing, LocalClose, View, Shut, Open, Room, Did, did, opening, answerTo, landed, act}
 use Rattle.table.specs.Sound.{goodStage}
 use Rattle.table.proofs.Soundness.{joining-bounds}
 use Rattle.client.specs.Events.{Event, Unreadable, Capabilities, Of}
 use Rattle.demands.specs.Runs.{Told, firstOf}
 use Rattle.demands.specs.Joining.{Join, Off, Waiting, Gathering, Dead, Brings, NoMessage, StillToCome, Complete, still, gathered, startsWith, goesOn, joins, wantsRoom, joinsIf, flag, flags, joinWith, broughtBy, brought, once, handed}
-use Rattle.demands.specs.Telling.{Said, says, whyNot, answered, stepSays, saysIf, handsUp, toldIf, tellsNone, toldWith}
+use Rattle.demands.specs.Telling.{Spoken, says, whyNot, answered, stepSays, saysIf, handsUp, toldIf, tellsNone, toldWith}
 use Rattle.demands.proofs.Traces.{Input, eventsIn, flagsIn, aloneOuts}
 use Rattle.demands.proofs.Machine.{roomFlag, toldBy, chanNext, chanOut, same-told}
 use Rattle.demands.proofs.Joined.{message-part, joinAt, joinOf, SoundView, Agrees, FineBlock, AllFine, act-joins}
 
 -- ---- one channel's rules say what the steps say, and hand up each message once
 
-pub record Speaks (d : Did) (s : Said) (b : Brings) : Type 0 where
+pub record Speaks (d : Did) (s : Spoken) (b : Brings) : Type 0 where
   pub answers : d .answer ≡ s .answer
   pub replies : d .reply ≡ s .reply
   pub hands : handed (toldBy d) ≡ once b
@@ -101,8 +101,8 @@ module _ (n : ℕ) (r : Record) (part : List ℕ) (whole : length part ≡ PART)
 
   first-says :
       (len : ℕ) (block : List ℕ)
-      → Lands (whyNot Waiting (First len)) (landed n r part block (begun len (length block))) (startsWith (First len) block .brings)
-  unfolding begun startsWith whyNot
+      → Lands (whyNot Waiting (First len)) (landed n r part block (tookFirst len (length block))) (startsWith (First len) block .brings)
+  unfolding tookFirst startsWith whyNot
   first-says len block = go (ltb MESSAGE-MAX len)
     where
       go :

@@ -16,7 +16,7 @@ use Rattle.lists.specs.Bytes.{zeros}
 use Rattle.lists.specs.Places.{place}
 use Rattle.lists.proofs.Cases.{true-not-false}
 use Rattle.numbers.specs.Numbers.{little, valueOf, valueAt, widthOf}
-use Rattle.reading.specs.Reading.{namedFor, createRequest, dataFirst, closing, afterNumber, badLengthWidth, numbered, capabilities, byVersion, charged, byCommand, readPdu}
+use Rattle.reading.specs.Reading.{namedFor, createRequest, dataFirst, closing, afterNumber, badLengthWidth, numbered, capabilities, badVersion, byVersion, charged, byCommand, readPdu}
 use Rattle.reading.specs.Said.{bytesAt}
 use Rattle.laying.specs.Laying.{createResponseBytes, closeBytes, capsResponseBytes}
 use Rattle.listeners.specs.Listeners.{names, ended, noneEmpty, sameBytes, isOneOf, allNames, goodList, isListed}
@@ -25,7 +25,7 @@ use Rattle.channel.specs.declared.Decline.the-variants.{Full}
 use Rattle.channel.specs.declared.Concern.the-variants.{NoChannel}
 use Rattle.channel.specs.declared.Answer.{Answer}
 use Rattle.channel.specs.declared.Answer.the-variants.{Ready, Opened, Declined, Held, Message, Closed, Ignored, Refused}
-use Rattle.channel.specs.Stages.{added, begun, took}
+use Rattle.channel.specs.Stages.{added, tookFirst, took}
 use Rattle.channel.specs.Channel.{Create, Bring, Closing, openedRecord, restaged, opening, stageAfter, partAfter, answerTo, landed, act}
 use Rattle.channel.specs.Answers.{numberOf, declineNumber}
 use Rattle.table.specs.Table.{emptyTable, holds, isFree, numberPlace, freePlace, recordAt, withRecord}
@@ -33,7 +33,7 @@ use Rattle.connection.specs.States.{State, viewAt, view, roomAt, roomIn, wrote,
 use Rattle.client.specs.Events.{Event, Unreadable, Capabilities, Of, createAct, eventOf, isOf}
 use Rattle.client.specs.Client.{finished, acted, readied, stepped}
 use Rattle.demands.specs.Trace.{consIf, keep, final, seen}
-use Rattle.demands.specs.Runs.{Asked, receives, Call, Told, eventIn, isEventOf, eventsOf, ownEvents, fullTable, asksRoom, eventMeetsFull}
+use Rattle.demands.specs.Runs.{Entry, receives, Call, Told, eventIn, isEventOf, eventsOf, ownEvents, fullTable, asksRoom, eventMeetsFull}
 use Rattle.demands.specs.Joining.{Off, Gathering, Brings, NoMessage, StillToCome, Complete, gathered, startsWith, goesOn, joins, joinsIf, joinWith, joinAll, broughtBy, brought, once, handed}
 use Rattle.demands.specs.Telling.{whyNot, answered, stepSays, saysIf, handsUp, toldIf, tellsNone}
 use Rattle.demands.specs.Managers.{Manager, Reached, at-first, called, JustStarted, first-start, new-start, everyTold, tellsTo, Sight, atStart, sightNext, sightTold, readyTold, paperStart, shouldTell, nobodys, isNobodys, Roomy, strayUp, AllEmpty, Orders, Demand2Of, Demand3Of}
@@ -43,7 +43,7 @@ use Rattle.demands.proofs.ByFlags.{runBy, finalBy, fullFrom, roomy-run,
 
 -- ---- the runs
 
-call : Asked → Call
+call : Entry → Call
 unfolding REPLY-MIN zeros
 call a = record { asked = a; reply = zeros REPLY-MIN; enough = lit≤ tt }
 
@@ -114,7 +114,7 @@ many-events =
     ∷ []
 
 hello-read : eventIn (hello .asked) ≡ Capabilities 3
-unfolding hello asks PUMP call eventIn eventOf readPdu byCommand capabilities byVersion charged little valueOf valueAt PDU-MAX
+unfolding hello asks PUMP call eventIn eventOf readPdu byCommand capabilities badVersion byVersion charged little valueOf valueAt PDU-MAX
 hello-read = refl
 
 short-read : eventsOf short ≡ short-events
@@ -130,14 +130,14 @@ with-hello xs es e = ap (λ (x : Event). x ∷ eventsOf xs) hello-read ∙ ap (�
 
 -- the paper's flags in them
 short-roomy : Roomy paperStart (Capabilities 3 ∷ short-events)
-unfolding short-events paperStart readied stepped acted finished save wrote view viewAt roomIn roomAt numberPlace freePlace recordAt withRecord emptyTable holds isFree place act landed stageAfter partAfter answerTo restaged took begun added opening openedRecord eventMeetsFull asksRoom fullTable PARTS MESSAGE-MAX
+unfolding short-events paperStart readied stepped acted finished save wrote view viewAt roomIn roomAt numberPlace freePlace recordAt withRecord emptyTable holds isFree place act landed stageAfter partAfter answerTo restaged took tookFirst added opening openedRecord eventMeetsFull asksRoom fullTable PARTS MESSAGE-MAX
 short-roomy = (refl, (refl, (refl, (refl, (refl, (refl, (refl, (refl, (refl, (refl, (refl, (refl, (refl, tt)))))))))))))
 
 many-flags :
     fullFrom paperStart (Capabilities 3 ∷ many-events)
     ≡ false ∷ false ∷ false ∷ false ∷ false ∷ false ∷ false ∷ false ∷ false ∷ false ∷ false ∷ false ∷ false ∷ false ∷ false ∷ false
     ∷ false ∷ true ∷ false ∷ []
-unfolding many-events opened-event paperStart readied stepped acted finished save wrote view viewAt roomIn roomAt numberPlace freePlace recordAt withRecord emptyTable holds isFree place act landed stageAfter partAfter answerTo restaged took begun added opening openedRecord eventMeetsFull asksRoom fullTable PARTS MESSAGE-MAX
+unfolding many-events opened-event paperStart readied stepped acted finished save wrote view viewAt roomIn roomAt numberPlace freePlace recordAt withRecord emptyTable holds isFree place act landed stageAfter partAfter answerTo restaged took tookFirst added opening openedRecord eventMeetsFull asksRoom fullTable PARTS MESSAGE-MAX
 many-flags = refl
 
 -- ---- what should be told in them
@@ -520,12 +520,12 @@ before-events : List Event
 before-events = Capabilities 3 ∷ Of 5 (Create true 0) ∷ Of 5 (Bring (First 4) (1 ∷ [])) ∷ []
 
 before-read : eventsOf before ≡ before-events
-unfolding before before-events hello opens asks PUMP call eventIn eventOf createAct readPdu byCommand capabilities byVersion charged numbered badLengthWidth afterNumber dataFirst createRequest namedFor bytesAt little valueOf valueAt widthOf place names ended noneEmpty sameBytes isOneOf allNames goodList isListed PDU-MAX LIST-MAX
+unfolding before before-events hello opens asks PUMP call eventIn eventOf createAct readPdu byCommand capabilities badVersion byVersion charged numbered badLengthWidth afterNumber dataFirst createRequest namedFor bytesAt little valueOf valueAt widthOf place names ended noneEmpty sameBytes isOneOf allNames goodList isListed PDU-MAX LIST-MAX
 before-read = refl
 
 -- it stands in the middle of a message
 before-flags : fullFrom paperStart before-events ≡ false ∷ false ∷ false ∷ []
-unfolding before-events paperStart readied stepped acted finished save wrote view viewAt roomIn roomAt numberPlace freePlace recordAt withRecord emptyTable holds isFree place act landed stageAfter partAfter answerTo restaged took begun added opening openedRecord eventMeetsFull asksRoom fullTable PARTS MESSAGE-MAX
+unfolding before-events paperStart readied stepped acted finished save wrote view viewAt roomIn roomAt numberPlace freePlace recordAt withRecord emptyTable holds isFree place act landed stageAfter partAfter answerTo restaged took tookFirst added opening openedRecord eventMeetsFull asksRoom fullTable PARTS MESSAGE-MAX
 before-flags = refl
 
 at-the-end : Beside Sight
@@ -547,7 +547,7 @@ then-events : List Event
 then-events = Capabilities 3 ∷ Of 5 (Bring More (9 ∷ [])) ∷ []
 
 then-read : eventsOf (hello ∷ behind ∷ []) ≡ then-events
-unfolding then-events behind hello asks PUMP call eventIn eventOf readPdu byCommand capabilities byVersion charged numbered badLengthWidth afterNumber bytesAt little valueOf valueAt widthOf PDU-MAX
+unfolding then-events behind hello asks PUMP call eventIn eventOf readPdu byCommand capabilities badVersion byVersion charged numbered badLengthWidth afterNumber bytesAt little valueOf valueAt widthOf PDU-MAX
 then-read = refl
 
 then-roomy : Roomy paperStart then-events

@@ -10,6 +10,7 @@ use Rattle.paper.specs.Rows.{firstHeld, comesTo}
 use Rattle.paper.specs.declared.Refusal.{Refusal}
 use Rattle.reading.specs.Reading.{readPdu}
 use Rattle.reading.specs.Layouts.{verdictOn, readingRows}
+use Rattle.laying.specs.Laying.{bufferAfter}
 use Rattle.writing.specs.Writing as writing
 use Rattle.writing.specs.declared.Written.the-variants.{Refused as NotWritten}
 use Rattle.cutting.specs.Cutting as cutting
@@ -89,7 +90,7 @@ pub record ARefusalLeavesAll : Type 0 where
       (store : List ℕ) → length store ≢ STORE → (started store .table ≡ emptyTable) × (storeStarted store ≡ store)
   pub writing :
       (bad : Bool) (pdu out : List ℕ) (why : Refusal) → writing.written bad pdu out ≡ NotWritten why
-      → writing.bufferAfter (writing.written bad pdu out) pdu out ≡ out
+      → bufferAfter (writing.outcome (writing.written bad pdu out)) pdu out ≡ out
   pub cutting :
       (number : ℕ) (message : List ℕ) (offset : ℕ) (out : List ℕ) (why : Refusal)
       → cutting.cutAt number message offset out ≡ NotCut why → cutting.cutBuffer number message offset out ≡ out

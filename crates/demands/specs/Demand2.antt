@@ -12,10 +12,12 @@ use Rattle.paper.specs.Sizes.{PARTS, PART, STORE, PDU-MAX, MESSAGE-MAX}
 use Rattle.lists.specs.Bytes.{zeros}
 use Rattle.numbers.specs.Numbers.{Bytes, NUMBERS, widthOf, codeFor, narrowest}
 use Rattle.reading.specs.declared.Charges.{Charges}
-use Rattle.reading.specs.Reading.{readPdu}
-use Rattle.reading.specs.Grammar.{Value, create-request, create-response, data-first, data-block, close, capabilities-request, capabilities-response, SmallCharges, NoZero, Encodes, Exactly}
-use Rattle.laying.specs.Laying.{createRequestBytes, createResponseBytes, dataFirstBytes, dataBytes, closeBytes, capsRequestBytes, capsResponseBytes}
-use Rattle.writing.specs.Writing.{badRequest, badVersion, badCapabilities}
+use Rattle.reading.specs.Reading.{badVersion, readPdu}
+use Rattle.reading.specs.Grammar.{Value, create-request, create-response, data-first, data-block, close}
+use Rattle.reading.specs.Grammar.{capabilities-request, capabilities-response, SmallCharges, NoZero, Encodes, Exactly}
+use Rattle.laying.specs.Laying.{createRequestBytes, createResponseBytes, dataFirstBytes, dataBytes, closeBytes}
+use Rattle.laying.specs.Laying.{capsRequestBytes, capsResponseBytes}
+use Rattle.writing.specs.Writing.{badRequest, badCapabilities}
 use Rattle.writing.specs.ReadBack.{ReadsBack}
 use Rattle.channel.specs.declared.Record.{Record}
 use Rattle.channel.specs.declared.Stage.the-variants.{Idle}

@@ -9,7 +9,8 @@ use Rattle.channel.specs.Channel.{Act, Shut}
 use Rattle.connection.specs.States.{State, view}
 use Rattle.client.specs.Events.{Of, closeAct}
 use Rattle.client.specs.Client.{stepped}
-use Rattle.demands.specs.Runs.{Call, after, toldTo, ends, eventIn, isEventOf, ownEvents, eventMeetsFull, fullFlags, JustReady, Running}
+use Rattle.demands.specs.Runs.{Call, after, toldTo, ends, eventIn, isEventOf, ownEvents, eventMeetsFull}
+use Rattle.demands.specs.Runs.{fullFlags, JustReady, Running}
 use Rattle.demands.specs.Orders.{TwoOrders, NeverFull, SameEitherWay, SameButPlaces, SameForOne}
 use Rattle.demands.specs.Twice.{Anew, ToldAlone}
 use Rattle.demands.specs.Managers.{ours, Demand3Of}

@@ -21,18 +21,18 @@ use Rattle.steps.specs.States.{Calm}
 use Rattle.demands.specs.Trace.{keep, final, seen}
 
 -- what a call is asked: a PDU with the list that is lent, or a close by the host
-pub data Asked : Type 0 where
-  receives : List ℕ → List ℕ → Asked
-  closes : ℕ → Asked
+pub data Entry : Type 0 where
+  receives : List ℕ → List ℕ → Entry
+  closes : ℕ → Entry
 
 -- a call with its reply buffer, of any length from 9 on and any contents
 pub record Call : Type 0 where
-  pub asked : Asked
+  pub asked : Entry
   pub reply : List ℕ
   pub enough : REPLY-MIN ≤ length reply
 
 -- what the call gives: the contracts of `receive` and `local_close`
-unfoldable pub gives : State → Asked → List ℕ → Whole
+unfoldable pub gives : State → Entry → List ℕ → Whole
 gives st (receives list pdu) reply = received (st .table) (st .store) list pdu reply
 gives st (closes n) reply = locallyClosed (st .table) (st .store) n reply
 
@@ -72,7 +72,7 @@ told st c =
 -- ---- events
 
 -- the event that a call is
-unfoldable pub eventIn : Asked → Event
+unfoldable pub eventIn : Entry → Event
 eventIn (receives list pdu) = eventOf list pdu (readPdu true pdu)
 eventIn (closes n) = Of n LocalClose
 

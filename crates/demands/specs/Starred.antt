@@ -12,14 +12,16 @@ use Rattle.paper.specs.Refusals.{refusalNumber}
 use Rattle.lists.specs.Bytes.{zeros}
 use Rattle.reading.specs.Reading.{readPdu}
 use Rattle.reading.specs.declared.Pdu.{Pdu}
-use Rattle.reading.specs.declared.Pdu.the-variants.{CreateRequest, CreateResponse, DataFirst, Data, Close, CapsRequest, CapsResponse, Refused}
+use Rattle.reading.specs.declared.Pdu.the-variants.{CreateRequest, CreateResponse, DataFirst, Data, Close}
+use Rattle.reading.specs.declared.Pdu.the-variants.{CapsRequest, CapsResponse, Refused}
 use Rattle.channel.specs.Stages.{took}
 use Rattle.channel.specs.declared.Stage.the-variants.{Idle}
 use Rattle.channel.specs.declared.Offer.the-variants.{First}
 use Rattle.channel.specs.declared.Took.{Took}
 use Rattle.channel.specs.declared.Took.the-variants.{Bars, Spoils, Holds, Finishes}
 use Rattle.channel.specs.declared.Answer.{Answer}
-use Rattle.channel.specs.declared.Answer.the-variants.{Ready, Opened, Declined, Held, Message, Closed, Ignored, Refused as NotDone}
+use Rattle.channel.specs.declared.Answer.the-variants.{Ready, Opened, Declined, Held, Message, Closed, Ignored}
+use Rattle.channel.specs.declared.Answer.the-variants.{Refused as NotDone}
 use Rattle.channel.specs.Channel.{NoRoom, Shut, act}
 use Rattle.client.specs.Events.{createAct}
 use Rattle.demands.specs.Cut.{Cut, CutByUs}

@@ -8,7 +8,8 @@ use lib.ListN.{length}
 use Rattle.paper.specs.Sizes.{MESSAGE-MAX}
 use Rattle.paper.specs.Statuses.{OPENED, UNLISTED, FULL}
 use Rattle.paper.specs.declared.Refusal.{Refusal}
-use Rattle.paper.specs.declared.Refusal.the-variants.{BadList, WrongTime, NotOpen, AlreadyOpen, StillJoining, OverLimit, PastLength, IsSpoiled}
+use Rattle.paper.specs.declared.Refusal.the-variants.{BadList, WrongTime, NotOpen, AlreadyOpen, StillJoining}
+use Rattle.paper.specs.declared.Refusal.the-variants.{OverLimit, PastLength, IsSpoiled}
 use Rattle.laying.specs.Laying.{createResponseBytes, closeBytes}
 use Rattle.channel.specs.declared.Offer.{Offer}
 use Rattle.channel.specs.declared.Offer.the-variants.{First, More}
@@ -19,15 +20,16 @@ use Rattle.channel.specs.declared.Answer.the-variants.{Opened, Declined, Held, 
 use Rattle.channel.specs.Channel.{Act, BadCreate, Create, Bring, Closing, LocalClose}
 use Rattle.client.specs.Events.{Event, Unreadable, Capabilities, Of}
 use Rattle.demands.specs.Runs.{Told}
-use Rattle.demands.specs.Joining.{Join, Off, Waiting, Gathering, Dead, Brings, NoMessage, StillToCome, Complete, joins, wantsRoom, joinsIf, flag, flags}
+use Rattle.demands.specs.Joining.{Join, Off, Waiting, Gathering, Dead, Brings, NoMessage, StillToCome, Complete}
+use Rattle.demands.specs.Joining.{joins, wantsRoom, joinsIf, flag, flags}
 
 -- ---- the steps, by where a channel's joining stands: the answer and the bytes of the reply
 
-pub record Said : Type 0 where
+pub record Spoken : Type 0 where
   pub answer : Answer
   pub reply : List ℕ
 
-abbrev pub says : Answer → List ℕ → Said
+abbrev pub says : Answer → List ℕ → Spoken
 says answer reply = record { answer = answer; reply = reply }
 
 -- why a block that an open channel gets brings nothing
@@ -45,7 +47,7 @@ answered n why NoMessage = Refused why (Channel n)
 answered n why (StillToCome left) = Held n left
 answered n why (Complete message) = Message n (length message)
 
-unfoldable pub stepSays : ℕ → Join → Act → Said
+unfoldable pub stepSays : ℕ → Join → Act → Spoken
 stepSays n j BadCreate = says (Refused BadList NoChannel) []
 stepSays n Off (Create listed pri) =
     cond listed (says (Opened n) (createResponseBytes n OPENED))
@@ -65,7 +67,7 @@ stepSays n Dead LocalClose = says (Closed n) (closeBytes n)
 
 -- ---- the same with full tables
 
-unfoldable pub saysIf : Bool → ℕ → Join → Act → Said
+unfoldable pub saysIf : Bool → ℕ → Join → Act → Spoken
 saysIf full n j a = cond (full && wantsRoom j a) (says (Declined n Full) (createResponseBytes n FULL)) (stepSays n j a)
 
 -- "handed up once"

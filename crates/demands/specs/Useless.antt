@@ -20,7 +20,8 @@ use Rattle.client.specs.Client.{stepped}
 use Rattle.demands.specs.Runs.{Call, Told, eventIn, eventMeetsFull}
 use Rattle.demands.specs.Joining.{Join, Off, Waiting, Gathering, Dead}
 use Rattle.demands.specs.Telling.{tellsNone}
-use Rattle.demands.specs.Managers.{Manager, Stand, put, allOff, Sight, atStart, sightNext, sightTold, paperStart, Demand2Of, Demand3Of}
+use Rattle.demands.specs.Managers.{Manager, Stand, put, allOff, Sight, atStart, sightNext, sightTold}
+use Rattle.demands.specs.Managers.{paperStart, Demand2Of, Demand3Of}
 
 -- ---- answers by their kind
 

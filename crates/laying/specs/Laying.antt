@@ -5,7 +5,9 @@ use mathlib.Core.Bool.{cond}
 use mathlib.Core.List.{List, [], _∷_, _++_}
 use lib.Dec.{eqb}
 use lib.IntN.{ℤ}
+use Rattle.paper.specs.Rows.{Outcome, done, refusal}
 use Rattle.paper.specs.Commands.{CREATE, DATA-FIRST, DATA, CLOSE, CAPABILITIES}
+use Rattle.lists.specs.Bytes.{laid}
 use Rattle.numbers.specs.Numbers.{bytesOf, codeFor, narrowBytes}
 use Rattle.numbers.specs.Status.{statusBytes}
 use Rattle.reading.specs.declared.Charges.{Charges}
@@ -51,3 +53,9 @@ capsRequestBytes version charges =
 
 unfoldable pub capsResponseBytes : ℕ → List ℕ
 capsResponseBytes version = capsHead version
+
+-- "Bytes of a reply or PDU buffer behind the written ones stay." "Store, reply and PDU buffer are unchanged by every
+-- refusal.": the buffer that an entry leaves which lays a PDU or refuses
+unfoldable pub bufferAfter : {A : Type 0} → Outcome A → List ℕ → List ℕ → List ℕ
+bufferAfter (done lengths) pdu out = laid out 0 pdu
+bufferAfter (refusal n) pdu out = out

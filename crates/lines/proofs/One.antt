@@ -4,16 +4,16 @@
 use mathlib.Core.Path.{_≡_}
 use denote.Ref.{now}
 use Rattle.lists.proofs.Cases.{same}
-use Rattle.lines.proofs.number.Reads as number
+use Rattle.lines.proofs.field.Reads as field
 use Rattle.lines.proofs.text.Reads as text
 use Rattle.lines.proofs.header.Reads as header
 use Rattle.lines.proofs.line.Reads as line
 use Rattle.lines.proofs.cut_line.Reads as cut-line
 use Rattle.lines.proofs.message_line.Reads as message-line
 
-pub number-one : (κs : _) (a : _) (r r′ : _) (s s′ : _) → number.Post κs a r s → number.Post κs a r′ s′
+pub field-one : (κs : _) (a : _) (r r′ : _) (s s′ : _) → field.Post κs a r s → field.Post κs a r′ s′
     → (r ≡ r′) × (now (s .0) ≡ now (s′ .0))
-number-one κs a r r′ s s′ p q = (same (p .0 .0) (q .0 .0), same (p .1) (q .1))
+field-one κs a r r′ s s′ p q = (same (p .0 .0) (q .0 .0), same (p .1) (q .1))
 
 pub text-one : (κs : _) (a : _) (r r′ : _) (s s′ : _) → text.Post κs a r s → text.Post κs a r′ s′
     → (r ≡ r′) × (now (s .0) ≡ now (s′ .0))

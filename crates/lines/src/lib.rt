@@ -2,7 +2,7 @@
 //
 // `header` lays the walker's first line, `line` the line of one PDU from its place, its answer and its reply's length,
 // `cut_line` the line of a last record that is cut short; `message_line` lays the line of a message handed up. Each lays its
-// bytes at the front of a buffer and answers how many there are; `number` and `text`, of which lines are made, lay theirs
+// bytes at the front of a buffer and answers how many there are; `field` and `text`, of which lines are made, lay theirs
 // from a place on. Bytes of the buffer behind them stay. A buffer that is too short gets as much as it has room for.
 use channel::Answer;
 use channel::Concern;
@@ -31,13 +31,13 @@ pub const LINE_MAX: usize = 4 * FIELD_MAX + WORD_MAX;
 pub const MESSAGE_LINE_MAX: usize = 2 * FIELD_MAX + 2 * MESSAGE_MAX + 1;
 
 // A field, at the end of its scratch.
-struct Field {
+struct Digits {
     bytes: [u8; FIELD_MAX],
     start: usize,
 }
 
 // The number's decimal digits and the byte that ends them.
-fn spelled(n: u64, end: u8) -> Field
+fn spelled(n: u64, end: u8) -> Digits
     ensures { λ r. ⌜ (r .start < FIELD-MAX) × (length (r .bytes) ≡ FIELD-MAX) × (drop (r .start) (r .bytes) ≡ field n end) ⌝ }
 {
     let mut bytes = [0u8; FIELD_MAX];
@@ -51,11 +51,11 @@ fn spelled(n: u64, end: u8) -> Field
     }
     i -= 1;
     bytes[i] = 48 + rest as u8;
-    Field { bytes, start: i }
+    Digits { bytes, start: i }
 }
 
 // A number's field, from a place on. Answers its length.
-pub fn number(out: &mut [u8], at: usize, n: u64, end: u8) -> usize
+pub fn field(out: &mut [u8], at: usize, n: u64, end: u8) -> usize
     ensures { λ r. ⌜ (r ≡ length (field n end)) × (r ≤ FIELD-MAX) ⌝ }
     ensures { λ _. ⌜ now (out .exit) ≡ laid (now (out .entry)) at (field n end) ⌝ }
 {
@@ -99,7 +99,7 @@ fn channel(out: &mut [u8], at: usize, concern: Concern) -> usize
 {
     match concern {
         Concern::NoChannel => text(out, at, b"- "),
-        Concern::Channel(n) => number(out, at, n as u64, b' '),
+        Concern::Channel(n) => field(out, at, n as u64, b' '),
     }
 }
 
@@ -116,11 +116,11 @@ pub fn line(out: &mut [u8], place: u64, answer: Answer, sent: usize) -> usize
     ensures { λ r. ⌜ (r ≡ length (lineOf place answer sent)) × (r ≤ LINE-MAX) ⌝ }
     ensures { λ _. ⌜ now (out .exit) ≡ laid (now (out .entry)) 0 (lineOf place answer sent) ⌝ }
 {
-    let placed = number(out, 0, place, b' ');
+    let placed = field(out, 0, place, b' ');
     let worded = placed + word(out, placed, answer);
     let concerned = worded + channel(out, worded, channel::concerns(answer));
-    let valued = concerned + number(out, concerned, channel::value(answer), b' ');
-    valued + number(out, valued, sent as u64, b'\n')
+    let valued = concerned + field(out, concerned, channel::value(answer), b' ');
+    valued + field(out, valued, sent as u64, b'\n')
 }
 
 // The line of a last record that is cut short: its place and `cut`.
@@ -128,7 +128,7 @@ pub fn cut_line(out: &mut [u8], place: u64) -> usize
     ensures { λ r. ⌜ (r ≡ length (cutLineOf place)) × (r ≤ LINE-MAX) ⌝ }
     ensures { λ _. ⌜ now (out .exit) ≡ laid (now (out .entry)) 0 (cutLineOf place) ⌝ }
 {
-    let placed = number(out, 0, place, b' ');
+    let placed = field(out, 0, place, b' ');
     placed + text(out, placed, b"cut\n")
 }
 
@@ -182,8 +182,8 @@ pub fn message_line(out: &mut [u8], place: u64, number: u32, bytes: &[u8]) -> us
     ensures { λ _. ⌜ now (out .exit) ≡ laid (now (out .entry)) 0 (messageLineOf place number (now (bytes .entry))) ⌝ }
 {
     let n = lists::lesser(MESSAGE_MAX, bytes.len());
-    let placed = self::number(out, 0, place, b' ');
-    let numbered = placed + self::number(out, placed, number as u64, b' ');
+    let placed = field(out, 0, place, b' ');
+    let numbered = placed + field(out, placed, number as u64, b' ');
     let told = numbered + message_bytes(out, numbered, &bytes[..n]);
     told + text(out, told, b"\n")
 }

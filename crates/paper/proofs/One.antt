@@ -2,7 +2,7 @@
 -- contract that the source states, read as plain facts.
 -- Assumes nothing.
 use mathlib.Core.Path.{_≡_, sym, _∙_}
-use Rattle.paper.proofs.number.Reads as number
+use Rattle.paper.proofs.refusal_number.Reads as refusal-number
 
-pub number-one : (κs : _) (a : _) (r r′ : _) (s s′ : _) → number.Post κs a r s → number.Post κs a r′ s′ → r ≡ r′
-number-one κs a r r′ s s′ p q = p ∙ sym q
+pub refusal-number-one : (κs : _) (a : _) (r r′ : _) (s s′ : _) → refusal-number.Post κs a r s → refusal-number.Post κs a r′ s′ → r ≡ r′
+refusal-number-one κs a r r′ s s′ p q = p ∙ sym q

@@ -24,6 +24,10 @@ unfoldable pub firstHeld : List Row → Verdict
 firstHeld [] = fine
 firstHeld (r ∷ rows) = cond (r .holds) (refusedWith (r .refusal)) (firstHeld rows)
 
+-- a definition that answers the first that holds: this answer where the test holds, and else the rest
+abbrev pub refuse : {A : Type 0} → A → Bool → A → A
+refuse answer test rest = cond test answer rest
+
 -- an answer in the paper's terms: what was done, or the refusal's number
 pub data Outcome (A : Type 0) : Type 0 where
   done : A → Outcome A

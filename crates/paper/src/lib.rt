@@ -80,7 +80,7 @@ pub enum Refusal {
 }
 
 // The refusal's number in the paper's table.
-pub fn number(refusal: Refusal) -> u8
+pub fn refusal_number(refusal: Refusal) -> u8
     ensures { λ n. ⌜ n ≡ refusalNumber refusal ⌝ }
 {
     match refusal {

@@ -38,6 +38,7 @@ use Rattle.reading.specs.Reading.{
   dataFirst,
   closing,
   capabilities,
+  badVersion,
   byVersion,
   charged,
 }
@@ -55,6 +56,7 @@ use Rattle.reading.specs.declared.Pdu.the-variants.{
   Refused,
 }
 use Rattle.paper.proofs.Sizes.{twelve-fit}
+use Rattle.reading.proofs.Placed.{good-version}
 use Rattle.reading.proofs.Heads.{headIn, length-head-in, Headed, read-head}
 use Rattle.reading.specs.Grammar.{
   Value,
@@ -237,14 +239,14 @@ length-versioned sp version rest = let l = length-append (bytesOf 2 version) res
 response-read :
     (sp version : ℕ) → sp ≤ 3 → 1 ≤ version → version ≤ 3
     → readAs false (versioned sp version []) ≡ values (capabilities-response version)
-unfolding readAs byVersion
+unfolding readAs byVersion badVersion
 response-read sp version m h k =
     let l = length-versioned sp version [] in
     rw (past-version false sp version [] m (omega arith) (omega arith))
     (rw (le-ltb version 1 h, le-ltb 3 version k, le-ltb 4 (length (versioned sp version [])) (omega arith)))
 
 first-version : (sp : ℕ) → sp ≤ 3 → readAs true (versioned sp 1 []) ≡ values (capabilities-request 1 noCharges)
-unfolding readAs byVersion charged
+unfolding readAs byVersion badVersion charged
 first-version sp m =
     let l = length-versioned sp 1 [] in
     rw (past-version true sp 1 [] m (omega arith) (omega arith))
@@ -276,7 +278,7 @@ module _ (sp version : ℕ) (c : Charges) (z : SmallCharges c) where
 
   charged-read :
       sp ≤ 3 → 2 ≤ version → version ≤ 3 → readAs true (versioned sp version (chargeBytes c)) ≡ values (capabilities-request version c)
-  unfolding readAs byVersion charged pdu
+  unfolding readAs byVersion badVersion charged pdu
   charged-read m h k =
       let lc = length-charges c in
       let l = length-versioned sp version (chargeBytes c) in
@@ -526,9 +528,8 @@ module _ (pdu : List ℕ) (b : Bytes pdu) where
     version-exact : (fromServer : Bool) → Exact fromServer pdu (byVersion fromServer pdu version)
     unfolding byVersion
     version-exact fromServer =
-        choice (Exact fromServer pdu) (ltb version 1) (λ e. tt)
-        (λ e. choice (Exact fromServer pdu) (ltb 3 version) (λ f. tt)
-        (λ f. either-exact fromServer (ltb-false version 1 e) (ltb-false 3 version f)))
+        choice (Exact fromServer pdu) (badVersion version) (λ e. tt)
+        (λ e. either-exact fromServer (good-version version e .0) (good-version version e .1))
 
   caps-exact :
       (fromServer : Bool) (sp cbId : ℕ) → sp ≤ 3 → getD pdu 0 0 ≡ firstByte CAPABILITIES sp cbId

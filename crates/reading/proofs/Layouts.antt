@@ -32,6 +32,7 @@ use Rattle.reading.specs.Reading.{
   dataFirst,
   closing,
   capabilities,
+  badVersion,
   byVersion,
   charged,
 }
@@ -285,14 +286,13 @@ module _ (pdu : List ℕ) where
   version-rows :
       (fromServer : Bool) → 4 ≤ length pdu
       → Reads (row BadField (not (not (ltb version 1 || ltb 3 version))) ∷ rowsOfFields (drop 4 pdu) (cond fromServer (charges version) []) no-more) (byVersion fromServer pdu version)
-  unfolding byVersion
+  unfolding byVersion badVersion
   version-rows fromServer h =
+      let bad = ltb version 1 || ltb 3 version in
       rw not-not
-      (choice (Reads (row BadField (ltb version 1 || ltb 3 version) ∷ rowsOfFields (drop 4 pdu) (cond fromServer (charges version) []) no-more)) (ltb version 1)
-      (λ e. held BadField (ltb version 1 || ltb 3 version) _ (rw e))
-      (λ e. choice (Reads (row BadField (ltb version 1 || ltb 3 version) ∷ rowsOfFields (drop 4 pdu) (cond fromServer (charges version) []) no-more)) (ltb 3 version)
-      (λ f. held BadField (ltb version 1 || ltb 3 version) _ (rw (e, f)))
-      (λ f. passed BadField (ltb version 1 || ltb 3 version) _ _ (rw (e, f)) (behind-version fromServer h))))
+      (choice (Reads (row BadField bad ∷ rowsOfFields (drop 4 pdu) (cond fromServer (charges version) []) no-more)) bad
+      (λ e. held BadField bad _ e)
+      (λ e. passed BadField bad _ _ e (behind-version fromServer h)))
 
   pad-rows :
       (fromServer : Bool) (cbId : ℕ) → 1 ≤ length pdu

@@ -2,7 +2,7 @@
 -- A class is two bits, a version 1 to 3, and a refusal one of 2 to 5.
 -- Assumes nothing.
 use mathlib.Core.Path.{_≡_}
-use mathlib.Core.Bool.{Bool, not}
+use mathlib.Core.Bool.{Bool, false, not}
 use mathlib.Core.List.{List}
 use Prim.Native.Nat.{ℕ, _+_, _-_, _/_, _%_, _≤_}
 use native.Mathlib.Omega.{arith}
@@ -17,14 +17,21 @@ use Rattle.paper.specs.declared.Refusal.the-variants.{PastLength, IsSpoiled, No
 use Rattle.paper.specs.Commands.{CREATE, DATA-FIRST, DATA, CAPABILITIES}
 use Rattle.lists.specs.Places.{place}
 use Rattle.lists.specs.Bytes.{isZero}
-use Rattle.lists.proofs.Cases.{choice}
+use Rattle.lists.proofs.Cases.{choice, neither}
 use Rattle.numbers.specs.Numbers.{valueAt, widthOf}
 use Rattle.reading.specs.Reading.{readPdu, byCommand, numbered, badLengthWidth, afterNumber, createRequest}
 use Rattle.reading.specs.Reading.{namedFor, createResponse, dataFirst, closing, capabilities, byVersion}
-use Rattle.reading.specs.Reading.{charged}
+use Rattle.reading.specs.Reading.{badVersion, charged}
 use Rattle.reading.specs.declared.Pdu.{Pdu}
 use Rattle.reading.specs.declared.Pdu.the-variants.{CreateRequest, CreateResponse, DataFirst, Data, Close}
 use Rattle.reading.specs.declared.Pdu.the-variants.{CapsRequest, CapsResponse, Refused}
+
+-- a good version is 1 to 3
+pub good-version : (version : ℕ) → badVersion version ≡ false → (1 ≤ version) × (version ≤ 3)
+unfolding badVersion
+good-version version e =
+    let p = neither (ltb version 1) (ltb 3 version) e in
+    (ltb-false version 1 (p .0), ltb-false 3 version (p .1))
 
 -- the refusals that reading gives
 abbrev pub ReadingRefusal : Refusal → Type 0
@@ -107,12 +114,10 @@ module _ (pdu : List ℕ) where
   versioned : (fromServer : Bool) (version : ℕ) → Placed pdu (byVersion fromServer pdu version)
   unfolding byVersion
   versioned fromServer version =
-      choice (Placed pdu) (ltb version 1) (λ e. tt)
-      (λ e. choice (Placed pdu) (ltb 3 version) (λ f. tt)
-      (λ f. let h = ltb-false version 1 e in
-      let k = ltb-false 3 version f in
-      choice (Placed pdu) fromServer (λ g. requested version h k)
-      (λ g. choice (Placed pdu) (ltb 4 (length pdu)) (λ i. tt) (λ i. (h, k)))))
+      choice (Placed pdu) (badVersion version) (λ e. tt)
+      (λ e. let h = good-version version e in
+      choice (Placed pdu) fromServer (λ g. requested version (h .0) (h .1))
+      (λ g. choice (Placed pdu) (ltb 4 (length pdu)) (λ i. tt) (λ i. h)))
 
   capable : (fromServer : Bool) (cbId : ℕ) → Placed pdu (capabilities fromServer pdu cbId)
   unfolding capabilities

@@ -5,13 +5,13 @@ use lib.IntN.{ℤ, pos}
 use lib.ListN.{take, drop}
 use Rattle.paper.specs.Commands.{CREATE, DATA-FIRST, DATA, CLOSE, CAPABILITIES}
 use Rattle.paper.specs.Refusals.{refusalNumber}
-use Rattle.reading.specs.declared.Place.{Place}
+use Rattle.reading.specs.declared.Extent.{Extent}
 use Rattle.reading.specs.declared.Pdu.{Pdu}
 use Rattle.reading.specs.declared.Pdu.the-variants.{CreateRequest, CreateResponse, DataFirst, Data, Close}
 use Rattle.reading.specs.declared.Pdu.the-variants.{CapsRequest, CapsResponse, Refused}
 
 -- the bytes at a place of the PDU
-unfoldable pub bytesAt : List ℕ → Place → List ℕ
+unfoldable pub bytesAt : List ℕ → Extent → List ℕ
 bytesAt pdu where-it-is = take (where-it-is .len) (drop (where-it-is .at) pdu)
 
 -- a row with its Cmd, its numbers in the row's order and its name or data; or a refusal

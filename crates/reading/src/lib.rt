@@ -18,7 +18,7 @@ ghost use Rattle.reading.specs.Reading.{createRequest, createResponse, d
 ghost use Rattle.reading.specs.Reading.{capabilities, byVersion, charged};
 
 // Where in the PDU a name or data stands. It may be empty.
-pub struct Place {
+pub struct Extent {
     pub at: usize,
     pub len: usize,
 }
@@ -37,7 +37,7 @@ pub enum Pdu {
     CreateRequest {
         number: u32,
         class: u8,
-        name: Place,
+        name: Extent,
     },
     // From the client.
     CreateResponse {
@@ -47,11 +47,11 @@ pub enum Pdu {
     DataFirst {
         number: u32,
         length: u32,
-        block: Place,
+        block: Extent,
     },
     Data {
         number: u32,
-        block: Place,
+        block: Extent,
     },
     Close {
         number: u32,
@@ -96,7 +96,7 @@ fn create_request(pdu: &[u8], number: u32, class: u8, at: usize) -> Pdu
     if len + 1 < pdu.len() - at {
         return Pdu::Refused(Refusal::BadField);
     }
-    let name = Place { at, len };
+    let name = Extent { at, len };
     Pdu::CreateRequest {
         number,
         class,
@@ -127,7 +127,7 @@ fn data_first(pdu: &[u8], number: u32, width: usize, at: usize) -> Pdu
     }
     let length = number_at(pdu, at, width);
     let start = at + width;
-    let block = Place {
+    let block = Extent {
         at: start,
         len: pdu.len() - start,
     };
@@ -161,7 +161,7 @@ fn after_number(pdu: &[u8], from_server: bool, cmd: u8, middle: u8, number: u32,
         return data_first(pdu, number, numbers::width(middle), at);
     }
     if cmd == DATA {
-        let block = Place {
+        let block = Extent {
             at,
             len: pdu.len() - at,
         };

@@ -13,11 +13,12 @@ use Rattle.lines.specs.Lines.{SPACE}
 use Rattle.listeners.specs.Listeners.{sameBytes}
 use Rattle.listeners.proofs.Matches.{same-self, same-equal}
 use Rattle.reading.specs.Said.{said, bytesAt}
-use Rattle.reading.specs.declared.Place.{Place}
+use Rattle.reading.specs.declared.Extent.{Extent}
 use Rattle.reading.specs.declared.Pdu.{Pdu}
 use Rattle.reading.specs.declared.Pdu.the-variants.{CreateRequest, CreateResponse, DataFirst, Data, Close}
 use Rattle.reading.specs.declared.Pdu.the-variants.{CapsRequest, CapsResponse, Refused}
-use Rattle.writing.specs.Writing.{written, bufferAfter}
+use Rattle.laying.specs.Laying.{bufferAfter}
+use Rattle.writing.specs.Writing.{written, outcome}
 use Rattle.writing.specs.declared.Written.{Written}
 use Rattle.said.specs.Saying.{numbersIn, bytesIn, spelledOut, rowOf, writes, againOf, answerTo, leftBy}
 
@@ -55,7 +56,7 @@ compared a b r f g = agree r (sameBytes a b) (λ e. rw (f e) (same-self b)) (λ 
 
 -- what the writer of the kind answered and left
 pub so-written : (pdu out after : List ℕ) (read : Pdu) (r : Written) (bad : Bool) (bytes : List ℕ)
-    → r ≡ written bad bytes out → after ≡ bufferAfter r bytes out → againOf pdu read ≡ writes bad bytes
+    → r ≡ written bad bytes out → after ≡ bufferAfter (outcome r) bytes out → againOf pdu read ≡ writes bad bytes
     → (r ≡ answerTo (againOf pdu read) out) × (after ≡ leftBy (againOf pdu read) out)
 unfolding answerTo leftBy
 so-written pdu out after read r bad bytes p q e = rw e (p, rw p at q)
@@ -77,6 +78,6 @@ part-at l a n {at} {len} e f =
     from-to l at len ∙ (rw (f, m, d) (take-least n (drop a l)))
 
 -- the bytes at a place are at most those of the PDU
-pub bytes-least : (pdu : List ℕ) (p : Place) → length (bytesAt pdu p) ≤ length pdu
+pub bytes-least : (pdu : List ℕ) (p : Extent) → length (bytesAt pdu p) ≤ length pdu
 unfolding bytesAt
 bytes-least pdu p = simp (length-take, length-drop) (omega arith)

@@ -12,15 +12,15 @@ use Rattle.numbers.specs.Status.{unsignedOf}
 use Rattle.lines.specs.Decimal.{field}
 use Rattle.lines.specs.Lines.{SPACE}
 use Rattle.listeners.specs.Listeners.{sameBytes}
-use Rattle.reading.specs.Reading.{readPdu}
+use Rattle.reading.specs.Reading.{badVersion, readPdu}
 use Rattle.reading.specs.Said.{Said, row, refusal, said, bytesAt}
-use Rattle.reading.specs.declared.Place.{Place}
+use Rattle.reading.specs.declared.Extent.{Extent}
 use Rattle.reading.specs.declared.Pdu.{Pdu}
 use Rattle.reading.specs.declared.Pdu.the-variants.{CreateRequest, CreateResponse, DataFirst, Data, Close}
 use Rattle.reading.specs.declared.Pdu.the-variants.{CapsRequest, CapsResponse, Refused}
-use Rattle.laying.specs.Laying.{createRequestBytes, createResponseBytes, dataFirstBytes, dataBytes, closeBytes}
+use Rattle.laying.specs.Laying.{bufferAfter, createRequestBytes, createResponseBytes, dataFirstBytes, dataBytes, closeBytes}
 use Rattle.laying.specs.Laying.{capsRequestBytes, capsResponseBytes}
-use Rattle.writing.specs.Writing.{written, bufferAfter, badRequest, badVersion, badCapabilities}
+use Rattle.writing.specs.Writing.{written, outcome, badRequest, badCapabilities}
 use Rattle.writing.specs.declared.Written.{Written}
 use Rattle.writing.specs.declared.Written.the-variants.{Length, Refused as NotWritten}
 use Rattle.said.specs.declared.Shown.{Shown}
@@ -47,7 +47,7 @@ spelledOut (n ∷ ns) = field n SPACE ++ spelledOut ns
 
 -- ---- the same, as the program holds it: six numbers, how many of them are the row's, and the place of the bytes
 
-abbrev pub shows : List ℕ → ℕ → Place → Shown
+abbrev pub shows : List ℕ → ℕ → Extent → Shown
 shows numbers count bytes = record { numbers = numbers; count = count; bytes = bytes }
 
 -- the first number of a line: Cmd, or the refusal number
@@ -61,7 +61,7 @@ firstNumber (CapsRequest version c) = CAPABILITIES
 firstNumber (CapsResponse version) = CAPABILITIES
 firstNumber (Refused why) = refusalNumber why
 
-abbrev pub none : Place
+abbrev pub none : Extent
 none = record { at = 0; len = 0 }
 
 abbrev pub rowOf : Pdu → Shown
@@ -99,7 +99,7 @@ answerTo (writes bad bytes) out = written bad bytes out
 answerTo (nothing why) out = NotWritten why
 
 unfoldable pub leftBy : Again → List ℕ → List ℕ
-leftBy (writes bad bytes) out = bufferAfter (written bad bytes out) bytes out
+leftBy (writes bad bytes) out = bufferAfter (outcome (written bad bytes out)) bytes out
 leftBy (nothing why) out = out
 
 -- ---- the line

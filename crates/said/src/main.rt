@@ -12,8 +12,8 @@ use files::Filled;
 use libc::STDERR_FILENO;
 use libc::STDIN_FILENO;
 use paper::PDU_MAX;
+use reading::Extent;
 use reading::Pdu;
-use reading::Place;
 use writing::Written;
 ghost use mathlib.Core.Path.{_≡_};
 ghost use Prim.Native.Nat.{_+_, _≤_};
@@ -36,7 +36,7 @@ const FIELDS: usize = 6;
 struct Shown {
     numbers: [u32; FIELDS],
     count: usize,
-    bytes: Place,
+    bytes: Extent,
 }
 
 // The first number of a line: Cmd, or the refusal number.
@@ -68,7 +68,7 @@ fn first_number(pdu: Pdu) -> u8
             charges: _,
         } => paper::CAPABILITIES,
         Pdu::CapsResponse { version: _ } => paper::CAPABILITIES,
-        Pdu::Refused(refusal) => paper::number(refusal),
+        Pdu::Refused(refusal) => paper::refusal_number(refusal),
     }
 }
 
@@ -89,7 +89,7 @@ fn row(pdu: Pdu) -> Shown
         Pdu::CreateResponse { number, status } => Shown {
             numbers: [cmd, number, numbers::unsigned(status), 0, 0, 0],
             count: 3,
-            bytes: Place { at: 0, len: 0 },
+            bytes: Extent { at: 0, len: 0 },
         },
         Pdu::DataFirst {
             number,
@@ -108,7 +108,7 @@ fn row(pdu: Pdu) -> Shown
         Pdu::Close { number } => Shown {
             numbers: [cmd, number, 0, 0, 0, 0],
             count: 2,
-            bytes: Place { at: 0, len: 0 },
+            bytes: Extent { at: 0, len: 0 },
         },
         Pdu::CapsRequest { version, charges } => Shown {
             numbers: [
@@ -120,23 +120,23 @@ fn row(pdu: Pdu) -> Shown
                 charges.class3 as u32,
             ],
             count: 6,
-            bytes: Place { at: 0, len: 0 },
+            bytes: Extent { at: 0, len: 0 },
         },
         Pdu::CapsResponse { version } => Shown {
             numbers: [cmd, version as u32, 0, 0, 0, 0],
             count: 2,
-            bytes: Place { at: 0, len: 0 },
+            bytes: Extent { at: 0, len: 0 },
         },
         Pdu::Refused(_) => Shown {
             numbers: [cmd, 0, 0, 0, 0, 0],
             count: 1,
-            bytes: Place { at: 0, len: 0 },
+            bytes: Extent { at: 0, len: 0 },
         },
     }
 }
 
 // The bytes at a place of the PDU.
-fn bytes_at(pdu: &[u8], bytes: Place) -> &[u8]
+fn bytes_at(pdu: &[u8], bytes: Extent) -> &[u8]
     ensures { λ r. ⌜ now r ≡ bytesAt (now (pdu .entry)) bytes ⌝ }
 {
     let at = lists::lesser(bytes.at, pdu.len());
@@ -153,7 +153,7 @@ fn spelled(out: &mut [u8], numbers: [u32; FIELDS], count: usize) -> usize
     let mut end = 0;
     let mut i = 0;
     while i < count {
-        end += lines::number(out, end, numbers[i] as u64, b' ');
+        end += lines::field(out, end, numbers[i] as u64, b' ');
         i += 1;
     }
     end
@@ -169,7 +169,7 @@ fn text(out: &mut [u8], pdu: &[u8], read: Pdu) -> usize
     let place = row.bytes;
     let bytes = bytes_at(pdu, place);
     let spelled = spelled(out, numbers, row.count);
-    let counted = spelled + lines::number(out, spelled, bytes.len() as u64, b':');
+    let counted = spelled + lines::field(out, spelled, bytes.len() as u64, b':');
     counted + lines::text(out, counted, bytes)
 }
 

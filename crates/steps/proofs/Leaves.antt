@@ -30,7 +30,7 @@ use Rattle.channel.specs.declared.Concern.the-variants.{NoChannel, Channel}
 use Rattle.channel.specs.declared.Answer.the-variants.{Refused}
 use Rattle.channel.specs.declared.Took.{Took}
 use Rattle.channel.specs.declared.Took.the-variants.{Bars, Spoils, Holds, Finishes}
-use Rattle.channel.specs.Stages.{added, begun, took}
+use Rattle.channel.specs.Stages.{added, tookFirst, took}
 use Rattle.channel.specs.Channel.{Act, BadCreate, Create, Bring, Closing, LocalClose, View, Shut, Open, Room, NoRoom, Spare, restaged, opening, stageAfter, partAfter, answerTo, landed, act}
 use Rattle.table.specs.declared.Table.{Table}
 use Rattle.table.specs.Table.{emptyTable, numberPlace, recordAt, withRecord}
@@ -57,7 +57,7 @@ unfolding added spoils
 added-right wanted held n = choice Right (ltb wanted (held + n)) (λ e. (refl, refl)) (λ e. choice Right (eqb (held + n) wanted) (λ f. tt) (λ f. tt))
 
 took-right : (s : Stage) (offer : Offer) (n : ℕ) → Right (took s offer n)
-unfolding took begun spoils
+unfolding took tookFirst spoils
 took-right Idle (First len) n = choice Right (ltb MESSAGE-MAX len) (λ e. (refl, refl)) (λ e. added-right len 0 n)
 took-right Idle More n = tt
 took-right (Joining wanted held) (First len) n = (refl, refl)

@@ -15,7 +15,7 @@ use Rattle.paper.specs.declared.Refusal.the-variants.{BadCall, BadList, WrongTi
 use Rattle.lists.proofs.Cases.{choice, each}
 use Rattle.reading.specs.Reading.{readPdu}
 use Rattle.reading.specs.Said.{bytesAt}
-use Rattle.reading.specs.declared.Place.{Place}
+use Rattle.reading.specs.declared.Extent.{Extent}
 use Rattle.reading.specs.declared.Pdu.{Pdu}
 use Rattle.reading.specs.declared.Pdu.the-variants.{CreateRequest, CreateResponse, DataFirst, Data, Close, CapsRequest, CapsResponse, Refused}
 use Rattle.reading.specs.Layouts.{verdictOn, readingRows}
@@ -34,7 +34,7 @@ use Rattle.paper.specs.Rows.{Verdict, fine, refusedWith, Row, row, firstHeld, c
 use Rattle.paper.proofs.Rows.{held-before, held-behind}
 use Rattle.channel.specs.declared.Took.{Took}
 use Rattle.channel.specs.declared.Took.the-variants.{Bars, Spoils, Holds, Finishes}
-use Rattle.channel.specs.Stages.{added, begun, took}
+use Rattle.channel.specs.Stages.{added, tookFirst, took}
 use Rattle.channel.specs.Channel.{Act, BadCreate, Create, Bring, Closing, LocalClose, View, Shut, Open, Room, NoRoom, Spare, opening, answerTo, landed, act}
 use Rattle.table.specs.declared.Table.{Table}
 use Rattle.table.specs.Table.{numberPlace, recordAt}
@@ -85,7 +85,7 @@ to-come wanted held m h = go (ltb (wanted - held) m) refl
 first-verdict :
     (s : Stage) (len m : ℕ)
     → tookVerdict (took s (First len) m) ≡ firstHeld (row IsSpoiled (isSpoiled s) ∷ row StillJoining (isJoining s) ∷ row OverLimit (ltb MESSAGE-MAX len) ∷ row PastLength (ltb len m) ∷ [])
-unfolding took begun firstHeld isSpoiled isJoining
+unfolding took tookFirst firstHeld isSpoiled isJoining
 first-verdict Spoiled len m = refl
 first-verdict (Joining wanted held) len m = refl
 first-verdict Idle len m = each tookVerdict (λ v. v) (ltb MESSAGE-MAX len) refl (rw zero-add at (added-verdict len 0 m))
@@ -167,7 +167,7 @@ of-verdict st n a = go (st .table .ready)
     go false = refuses-so WrongTime NoChannel
 
 -- a place within the PDU is as long as it says
-place-long : (pdu : List ℕ) (p : Place) → p .at + p .len ≡ length pdu → length (bytesAt pdu p) ≡ p .len
+place-long : (pdu : List ℕ) (p : Extent) → p .at + p .len ≡ length pdu → length (bytesAt pdu p) ≡ p .len
 unfolding bytesAt
 place-long pdu p h = simp (length-take, length-drop) (omega arith)
 

@@ -9,16 +9,19 @@ use lib.ListN.{length}
 use Rattle.paper.specs.Sizes.{PARTS, STORE, MESSAGE-MAX}
 use Rattle.paper.specs.Refusals.{refusalNumber}
 use Rattle.paper.specs.Rows.{Verdict, fine, refusedWith, Row, row, Outcome, done, refusal}
-use Rattle.paper.specs.declared.Refusal.the-variants.{BadCall, BadList, WrongTime, NotOpen, AlreadyOpen, StillJoining, OverLimit, PastLength, IsSpoiled}
+use Rattle.paper.specs.declared.Refusal.the-variants.{BadCall, BadList, WrongTime, NotOpen, AlreadyOpen, StillJoining}
+use Rattle.paper.specs.declared.Refusal.the-variants.{OverLimit, PastLength, IsSpoiled}
 use Rattle.reading.specs.Reading.{readPdu}
 use Rattle.reading.specs.Layouts.{readingRows}
 use Rattle.reading.specs.declared.Pdu.{Pdu}
-use Rattle.reading.specs.declared.Pdu.the-variants.{CreateRequest, CreateResponse, DataFirst, Data, Close, CapsRequest, CapsResponse, Refused}
+use Rattle.reading.specs.declared.Pdu.the-variants.{CreateRequest, CreateResponse, DataFirst, Data, Close}
+use Rattle.reading.specs.declared.Pdu.the-variants.{CapsRequest, CapsResponse, Refused}
 use Rattle.listeners.specs.Listeners.{goodList}
 use Rattle.channel.specs.declared.Stage.{Stage}
 use Rattle.channel.specs.declared.Stage.the-variants.{Idle, Joining, Spoiled}
 use Rattle.channel.specs.declared.Answer.{Answer}
-use Rattle.channel.specs.declared.Answer.the-variants.{Ready, Opened, Declined, Held, Message, Closed, Ignored, Refused as Refuses}
+use Rattle.channel.specs.declared.Answer.the-variants.{Ready, Opened, Declined, Held, Message, Closed, Ignored}
+use Rattle.channel.specs.declared.Answer.the-variants.{Refused as Refuses}
 use Rattle.table.specs.declared.Table.{Table}
 use Rattle.table.specs.Table.{numberPlace, recordAt}
 use Rattle.client.specs.declared.Begun.{Begun}

@@ -10,7 +10,8 @@ ghost use mathlib.Core.Path.{_≡_};
 ghost use mathlib.Core.Bool.{true};
 ghost use lib.ListN.{drop};
 ghost use Rattle.channel.specs.Channel.{blank};
-ghost use Rattle.table.specs.Table.{emptyTable, holds, withRecord, freePlace, foundIn, openIn, homeIn, bitOf, siteOf, nextOf, putBack};
+ghost use Rattle.table.specs.Table.{emptyTable, holds, withRecord, freePlace, foundIn, openIn, homeIn};
+ghost use Rattle.table.specs.Table.{bitOf, siteOf, nextOf, putBack};
 ghost use Rattle.table.specs.Sound.{some, every, noNumberTwice, goodStage, goodRecord, goodLevel, soundTable};
 
 pub struct Table {

@@ -9,14 +9,20 @@ use borrow.Author.Tests.{ne-eqb}
 use lib.Dec.{eqb}
 use lib.ListN.{length, take, drop, getD, length-drop, length-take, drop-of-length-le}
 use lib.Seq.{take-take, take-all}
-use Rattle.paper.specs.Sizes.{PART}
-use Rattle.lists.proofs.Cases.{lt-or-le, true-not-false}
+use Rattle.paper.specs.Sizes.{PART, PARTS}
+use Rattle.lists.proofs.Cases.{choice, lt-or-le, true-not-false}
+use Rattle.lists.proofs.Places.{place-le}
 use Rattle.lists.proofs.Laid.{take-least}
 use mathlib.Core.Logic.{⊎-elim}
 use Rattle.store.specs.Parts.{part}
+use Rattle.channel.specs.declared.Concern.{Concern}
+use Rattle.channel.specs.declared.Concern.the-variants.{NoChannel, Channel}
+use Rattle.table.specs.declared.Table.{Table}
+use Rattle.table.specs.Table.{holds, numberPlace}
+use Rattle.client.specs.Client.{placeFor, received, locallyClosed, guarded, Whole, wholeOf}
 use Rattle.walking.specs.declared.Job.{Job}
 use Rattle.walking.specs.declared.Job.the-variants.{Lines, Messages, Moves}
-use Rattle.walking.specs.Walking.{isClose}
+use Rattle.walking.specs.Walking.{Walk, isClose, answered, placeIn}
 
 -- no bytes are no local close
 pub none-close : (bytes : List ℕ) → length bytes ≡ 0 → eqb (getD bytes 0 1) 0 ≡ false
@@ -35,6 +41,18 @@ close-some Lines bytes h = absurd (true-not-false (sym h))
 close-some Messages bytes h = absurd (true-not-false (sym h))
 close-some Moves [] h = absurd (true-not-false (sym h))
 close-some Moves (b ∷ bytes) h = omega arith
+
+-- the place beside an answer is a record's, or the number of records
+pub at-most : (t : Table) (concern : Concern) → length (t .records) ≡ PARTS → placeFor t concern ≤ PARTS
+unfolding placeFor numberPlace
+at-most t NoChannel long = omega arith
+at-most t (Channel n) long = rw long at (place-le (holds n) (t .records))
+
+-- a step's place is that of the channel that its answer concerns
+pub beside : (job : Job) (list : List ℕ) (w : Walk) (bytes : List ℕ)
+    → answered job list w bytes .result .place ≡ placeIn (answered job list w bytes .result)
+unfolding answered received locallyClosed guarded wholeOf placeIn
+beside job list w bytes = choice (λ (x : Whole). x .result .place ≡ placeIn (x .result)) (isClose job bytes) (λ e. refl) (λ e. refl)
 
 -- past the end there is nothing
 drop-least : (s : ℕ) (l : List ℕ) → drop (min s (length l)) l ≡ drop s l

@@ -9,11 +9,12 @@ use Rattle.lists.specs.Bytes.{laid, zeros}
 use Rattle.numbers.specs.Numbers.{valueOf}
 use Rattle.channel.specs.declared.Answer.{Answer}
 use Rattle.channel.specs.declared.Answer.the-variants.{Ready, Opened, Declined, Held, Message, Closed, Ignored, Refused}
+use Rattle.channel.specs.Answers.{concernOf}
 use Rattle.table.specs.declared.Table.{Table}
-use Rattle.table.specs.Table.{emptyTable, numberPlace}
+use Rattle.table.specs.Table.{emptyTable}
 use Rattle.store.specs.Parts.{part}
 use Rattle.client.specs.declared.Received.{Received}
-use Rattle.client.specs.Client.{Whole, received, locallyClosed}
+use Rattle.client.specs.Client.{Whole, placeFor, received, locallyClosed}
 use Rattle.lines.specs.Lines.{LINE-MAX, MESSAGE-LINE-MAX, headerLine, lineOf, cutLineOf, messageLineOf}
 use Rattle.records.specs.declared.Due.the-variants.{Read}
 use Rattle.records.specs.Walks.{Program, output, Went, Turned}
@@ -73,25 +74,30 @@ afterRecord job list w bytes =
 
 -- ---- what is written
 
--- "A handed-up message of n bytes is the first n bytes of that part."
-unfoldable pub handedUp : Table → List ℕ → ℕ → ℕ → List ℕ
-handedUp t store number n = take n (part store (numberPlace number t))
+-- "A handed-up message of n bytes is the first n bytes of that part.": of the part at the place that stands beside the
+-- answer
+unfoldable pub handedUp : List ℕ → ℕ → ℕ → List ℕ
+handedUp store at n = take n (part store at)
+
+-- the place of the record of the channel that a result's answer concerns
+unfoldable pub placeIn : Received → ℕ
+placeIn r = placeFor (r .table) (concernOf (r .answer))
 
 -- a line for a message handed up, and nothing for any other answer
-unfoldable pub messageText : ℕ → Table → List ℕ → Answer → List ℕ
-messageText place t store (Ready level) = []
-messageText place t store (Opened number) = []
-messageText place t store (Declined number why) = []
-messageText place t store (Held number left) = []
-messageText place t store (Message number n) = messageLineOf place number (handedUp t store number n)
-messageText place t store (Closed number) = []
-messageText place t store (Ignored number) = []
-messageText place t store (Refused why concern) = []
+unfoldable pub messageText : ℕ → ℕ → List ℕ → Answer → List ℕ
+messageText place at store (Ready level) = []
+messageText place at store (Opened number) = []
+messageText place at store (Declined number why) = []
+messageText place at store (Held number left) = []
+messageText place at store (Message number n) = messageLineOf place number (handedUp store at n)
+messageText place at store (Closed number) = []
+messageText place at store (Ignored number) = []
+messageText place at store (Refused why concern) = []
 
 -- the text of a record, from what the step gave and left in the store
 unfoldable pub textFor : Job → ℕ → Received → List ℕ → List ℕ
 textFor Lines place r store = lineOf place (r .answer) (r .sent)
-textFor Messages place r store = messageText place (r .table) store (r .answer)
+textFor Messages place r store = messageText place (r .place) store (r .answer)
 textFor Moves place r store = lineOf place (r .answer) (r .sent)
 
 unfoldable pub firstFor : Job → List ℕ

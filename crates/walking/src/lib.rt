@@ -17,12 +17,13 @@ ghost use mathlib.Core.Path.{_≡_};
 ghost use mathlib.Core.List.{List};
 ghost use Prim.Native.Nat.{ℕ, _≤_};
 ghost use lib.ListN.{length};
+ghost use Rattle.paper.specs.Sizes.{PARTS};
 ghost use Rattle.lists.specs.Bytes.{laid};
 ghost use Rattle.lines.specs.Lines.{LINE-MAX, MESSAGE-LINE-MAX, messageLineOf};
 ghost use Rattle.records.specs.Records.{pdus};
 ghost use Rattle.records.specs.Walks.{walkOver, turned, walked, ended};
 ghost use Rattle.client.specs.Client.{storeStarted, Whole};
-ghost use Rattle.walking.specs.Walking.{walkOf, keptOf, beginning, isClose, answered, afterRecord, handedUp};
+ghost use Rattle.walking.specs.Walking.{walkOf, keptOf, beginning, isClose, answered, afterRecord, placeIn, handedUp};
 ghost use Rattle.walking.specs.Walking.{messageText, textFor, firstFor, cutFor, roomFor, program, Steps, Walks, Turns};
 
 // What a walk is for.
@@ -148,8 +149,10 @@ fn answered(
     bytes: &[u8],
     place: u64,
 ) -> Received
-    ensures { λ r. ⌜ r ≡ answered job (now (list .entry)) (record { table = table; store = now (store .entry); place = place }) (now (bytes .entry)) .result ⌝ }
-    ensures { λ _. ⌜ now (store .exit) ≡ answered job (now (list .entry)) (record { table = table; store = now (store .entry); place = place }) (now (bytes .entry)) .store ⌝ }
+    ensures { λ r. ⌜ r ≡ answered job (now (list .entry))
+        (record { table = table; store = now (store .entry); place = place }) (now (bytes .entry)) .result ⌝ }
+    ensures { λ _. ⌜ now (store .exit) ≡ answered job (now (list .entry))
+        (record { table = table; store = now (store .entry); place = place }) (now (bytes .entry)) .store ⌝ }
 {
     let mut reply = [0u8; REPLY_MIN];
     if is_close(job, bytes) {
@@ -159,29 +162,30 @@ fn answered(
     client::receive(table, store, list, bytes, &mut reply)
 }
 
-// The line of a message handed up: its bytes are the first of the part of the record that holds the number.
-fn message(out: &mut [u8], place: u64, table: Table, store: &[u8], number: u32, len: usize) -> usize
-    ensures { λ r. ⌜ (r ≡ length (messageLineOf place number (handedUp table (now (store .entry)) number len))) × (r ≤ MESSAGE-LINE-MAX) ⌝ }
-    ensures { λ _. ⌜ now (out .exit) ≡ laid (now (out .entry)) 0 (messageLineOf place number (handedUp table (now (store .entry)) number len)) ⌝ }
+// The line of a message handed up: its bytes are the first of the part at the place beside the answer.
+fn message(out: &mut [u8], place: u64, at: usize, store: &[u8], number: u32, len: usize) -> usize
+    requires { ⌜ at ≤ PARTS ⌝ }
+    ensures { λ r. ⌜ (r ≡ length (messageLineOf place number (handedUp (now (store .entry)) at len))) × (r ≤ MESSAGE-LINE-MAX) ⌝ }
+    ensures { λ _. ⌜ now (out .exit) ≡ laid (now (out .entry)) 0 (messageLineOf place number (handedUp (now (store .entry)) at len)) ⌝ }
 {
-    let found = table::find_number(table, number);
-    let start = lists::lesser(PART * found.place, store.len());
+    let start = lists::lesser(PART * at, store.len());
     let n = lists::lesser(len, PART);
     let end = start + lists::lesser(n, store.len() - start);
     lines::message_line(out, place, number, &store[start..end])
 }
 
 // A line for a message handed up, and nothing for any other answer.
-fn message_text(out: &mut [u8], place: u64, table: Table, store: &[u8], answer: Answer) -> usize
-    ensures { λ r. ⌜ (r ≡ length (messageText place table (now (store .entry)) answer)) × (r ≤ MESSAGE-LINE-MAX) ⌝ }
-    ensures { λ _. ⌜ now (out .exit) ≡ laid (now (out .entry)) 0 (messageText place table (now (store .entry)) answer) ⌝ }
+fn message_text(out: &mut [u8], place: u64, at: usize, store: &[u8], answer: Answer) -> usize
+    requires { ⌜ at ≤ PARTS ⌝ }
+    ensures { λ r. ⌜ (r ≡ length (messageText place at (now (store .entry)) answer)) × (r ≤ MESSAGE-LINE-MAX) ⌝ }
+    ensures { λ _. ⌜ now (out .exit) ≡ laid (now (out .entry)) 0 (messageText place at (now (store .entry)) answer) ⌝ }
 {
     match answer {
         Answer::Ready { level: _ } => 0,
         Answer::Opened { number: _ } => 0,
         Answer::Declined { number: _, why: _ } => 0,
         Answer::Held { number: _, left: _ } => 0,
-        Answer::Message { number, len } => message(out, place, table, store, number, len),
+        Answer::Message { number, len } => message(out, place, at, store, number, len),
         Answer::Closed { number: _ } => 0,
         Answer::Ignored { number: _ } => 0,
         Answer::Refused { why: _, concern: _ } => 0,
@@ -190,14 +194,14 @@ fn message_text(out: &mut [u8], place: u64, table: Table, store: &[u8], answer: 
 
 // The text of a record, at the front of the buffer.
 fn text_for(job: Job, out: &mut [u8], place: u64, received: Received, store: &[u8]) -> usize
+    requires { ⌜ received .place ≡ placeIn received ⌝ }
     ensures { λ r. ⌜ (r ≡ length (textFor job place received (now (store .entry)))) × (r ≤ roomFor job) ⌝ }
     ensures { λ _. ⌜ now (out .exit) ≡ laid (now (out .entry)) 0 (textFor job place received (now (store .entry))) ⌝ }
 {
     let answer = received.answer;
-    let table = received.table;
     match job {
         Job::Lines => lines::line(out, place, answer, received.sent),
-        Job::Messages => message_text(out, place, table, store, answer),
+        Job::Messages => message_text(out, place, received.place, store, answer),
         Job::Moves => lines::line(out, place, answer, received.sent),
     }
 }
@@ -211,7 +215,8 @@ fn step(
     bytes: &[u8],
     out: &mut [u8],
 ) -> Stepped
-    ensures { λ r. ⌜ Steps (program job (now (list .entry))) (walkOf kept (now (store .entry))) (now (bytes .entry)) (now (out .entry)) r (now (store .exit)) (now (out .exit)) ⌝ }
+    ensures { λ r. ⌜ Steps (program job (now (list .entry))) (walkOf kept (now (store .entry))) (now (bytes .entry))
+        (now (out .entry)) r (now (store .exit)) (now (out .exit)) ⌝ }
 {
     let table = kept.table;
     let received = answered(job, table, store, list, bytes, kept.place);
@@ -228,7 +233,9 @@ fn step(
 
 // Walks through the whole records at the front of the input, while the output has room for a record's text.
 fn walk(job: Job, kept: Kept, store: &mut [u8], list: &[u8], input: &[u8], out: &mut [u8]) -> Walked
-    ensures { λ r. ⌜ Walks (walkOver (program job (now (list .entry))) (length (now (out .entry))) (walkOf kept (now (store .entry))) (pdus (now (input .entry)))) (now (out .entry)) r (now (store .exit)) (now (out .exit)) ⌝ }
+    ensures { λ r. ⌜ Walks (walkOver (program job (now (list .entry))) (length (now (out .entry)))
+        (walkOf kept (now (store .entry))) (pdus (now (input .entry))))
+        (now (out .entry)) r (now (store .exit)) (now (out .exit)) ⌝ }
     ensures within { λ r. ⌜ (r .taken ≤ length (now (input .entry))) × (r .laid ≤ length (now (out .entry))) ⌝ }
 {
     let room = room_for(job);
@@ -263,7 +270,9 @@ fn onward(
     input: &mut [u8],
     out: &mut [u8],
 ) -> Turned
-    ensures { λ r. ⌜ Turns (walked (program job (now (list .entry))) (length (now (out .entry))) (walkOf kept (now (store .entry))) (now (input .entry))) (now (input .entry)) (now (out .entry)) r (now (store .exit)) (now (input .exit)) (now (out .exit)) ⌝ }
+    ensures { λ r. ⌜ Turns (walked (program job (now (list .entry))) (length (now (out .entry)))
+        (walkOf kept (now (store .entry))) (now (input .entry)))
+        (now (input .entry)) (now (out .entry)) r (now (store .exit)) (now (input .exit)) (now (out .exit)) ⌝ }
     ensures within { λ r. ⌜ (r .stand .had ≤ length (now (input .entry))) × (r .laid ≤ length (now (out .entry))) ⌝ }
 {
     let walked = walk(job, kept, store, list, input, out);
@@ -283,7 +292,9 @@ fn onward(
 
 // The turn at the end of the input: what is left is a record that is cut short. With too little room it waits.
 fn finish(job: Job, kept: Kept, input: &[u8], out: &mut [u8]) -> Turned
-    ensures { λ r. ⌜ ((list store : List ℕ) → Turns (ended (program job list) (length (now (out .entry))) (walkOf kept store) (now (input .entry))) (now (input .entry)) (now (out .entry)) r store (now (input .entry)) (now (out .exit))) ⌝ }
+    ensures { λ r. ⌜ ((list store : List ℕ) → Turns (ended (program job list) (length (now (out .entry)))
+        (walkOf kept store) (now (input .entry)))
+        (now (input .entry)) (now (out .entry)) r store (now (input .entry)) (now (out .exit))) ⌝ }
     ensures within { λ r. ⌜ (r .stand .had ≤ length (now (input .entry))) × (r .laid ≤ length (now (out .entry))) ⌝ }
 {
     let had = input.len();
@@ -312,7 +323,9 @@ pub fn turn(
     input: &mut [u8],
     out: &mut [u8],
 ) -> Turned
-    ensures { λ r. ⌜ Turns (turned (program job (now (list .entry))) (length (now (out .entry))) (stand .due) (walkOf (stand .kept) (now (store .entry))) (stand .had) (now (input .entry))) (now (input .entry)) (now (out .entry)) r (now (store .exit)) (now (input .exit)) (now (out .exit)) ⌝ }
+    ensures { λ r. ⌜ Turns (turned (program job (now (list .entry))) (length (now (out .entry)))
+        (stand .due) (walkOf (stand .kept) (now (store .entry))) (stand .had) (now (input .entry)))
+        (now (input .entry)) (now (out .entry)) r (now (store .exit)) (now (input .exit)) (now (out .exit)) ⌝ }
     ensures within { λ r. ⌜ (r .stand .had ≤ length (now (input .entry))) × (r .laid ≤ length (now (out .entry))) ⌝ }
 {
     let kept = stand.kept;

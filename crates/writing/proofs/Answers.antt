@@ -8,9 +8,9 @@ use lib.ListN.{length}
 use Rattle.paper.specs.declared.Refusal.{Refusal}
 use Rattle.lists.specs.Bytes.{laid}
 use Rattle.reading.specs.declared.Charges.{Charges}
-use Rattle.laying.specs.Laying.{capsRequestBytes}
+use Rattle.laying.specs.Laying.{capsRequestBytes, bufferAfter}
 use Rattle.laying.proofs.Lengths.{length-caps-request}
-use Rattle.writing.specs.Writing.{judged, written, bufferAfter, requestLength}
+use Rattle.writing.specs.Writing.{judged, written, outcome, requestLength}
 use Rattle.writing.specs.declared.Written.{Written}
 use Rattle.writing.specs.declared.Written.the-variants.{Length, Refused}
 
@@ -22,13 +22,13 @@ answered pdu out e f g = e ∙ rw (f, g)
 
 -- not refused: the PDU is laid
 pub laid-so : (pdu out : List ℕ) {after : List ℕ} {r : Written} {n : ℕ} → r ≡ Length n → after ≡ laid out 0 pdu
-    → after ≡ bufferAfter r pdu out
-unfolding bufferAfter
+    → after ≡ bufferAfter (outcome r) pdu out
+unfolding outcome bufferAfter
 laid-so pdu out told h = rw told h
 
 -- refused: nothing is touched
-pub refused-so : (pdu out : List ℕ) {r : Written} {why : Refusal} → r ≡ Refused why → out ≡ bufferAfter r pdu out
-unfolding bufferAfter
+pub refused-so : (pdu out : List ℕ) {r : Written} {why : Refusal} → r ≡ Refused why → out ≡ bufferAfter (outcome r) pdu out
+unfolding outcome bufferAfter
 refused-so pdu out told = rw told
 
 pub length-request : (version : ℕ) (charges : Charges)

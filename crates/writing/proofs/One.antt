@@ -6,7 +6,8 @@ use mathlib.Core.List.{List}
 use Prim.Native.Nat.{ℕ}
 use denote.Ref.{now}
 use Rattle.lists.proofs.Cases.{same}
-use Rattle.writing.specs.Writing.{bufferAfter}
+use Rattle.laying.specs.Laying.{bufferAfter}
+use Rattle.writing.specs.Writing.{outcome}
 use Rattle.writing.specs.declared.Written.{Written}
 use Rattle.writing.proofs.write_create_request.Reads as write-create-request
 use Rattle.writing.proofs.write_create_response.Reads as write-create-response
@@ -18,7 +19,7 @@ use Rattle.writing.proofs.write_capabilities_response.Reads as write-ca
 
 -- the buffer is what the answer leaves of it
 written-one : (v : Written) (pdu out : List ℕ) {r r′ : Written} {b b′ : List ℕ}
-    → (r ≡ v) × (b ≡ bufferAfter r pdu out) → (r′ ≡ v) × (b′ ≡ bufferAfter r′ pdu out) → (r ≡ r′) × (b ≡ b′)
+    → (r ≡ v) × (b ≡ bufferAfter (outcome r) pdu out) → (r′ ≡ v) × (b′ ≡ bufferAfter (outcome r′) pdu out) → (r ≡ r′) × (b ≡ b′)
 written-one v pdu out p q =
     let e = same (p .0) (q .0) in
     (e, p .1 ∙ rw e (sym (q .1)))

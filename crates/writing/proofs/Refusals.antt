@@ -10,7 +10,8 @@ use Rattle.paper.specs.Sizes.{PDU-MAX}
 use Rattle.paper.specs.Rows.{fine, refusedWith, firstHeld, comesTo}
 use Rattle.paper.specs.declared.Refusal.{Refusal}
 use Rattle.paper.specs.declared.Refusal.the-variants.{BadCall, BadField, OverLimit}
-use Rattle.writing.specs.Writing.{judged, written, bufferAfter, outcome, writingRows}
+use Rattle.laying.specs.Laying.{bufferAfter}
+use Rattle.writing.specs.Writing.{judged, written, outcome, writingRows}
 use Rattle.writing.specs.declared.Written.{Written}
 use Rattle.writing.specs.declared.Written.the-variants.{Length, Refused}
 
@@ -29,6 +30,6 @@ writing-refusals bad pdu out = go (ltb (length out) PDU-MAX) bad (ltb PDU-MAX (l
     go false false false = refl
 
 pub writing-leaves :
-    (bad : Bool) (pdu out : List ℕ) (why : Refusal) → written bad pdu out ≡ Refused why → bufferAfter (written bad pdu out) pdu out ≡ out
-unfolding bufferAfter
-writing-leaves bad pdu out why e = ap (λ (w : Written). bufferAfter w pdu out) e
+    (bad : Bool) (pdu out : List ℕ) (why : Refusal) → written bad pdu out ≡ Refused why → bufferAfter (outcome (written bad pdu out)) pdu out ≡ out
+unfolding outcome bufferAfter
+writing-leaves bad pdu out why e = ap (λ (w : Written). bufferAfter (outcome w) pdu out) e

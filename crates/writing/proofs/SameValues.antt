@@ -38,6 +38,7 @@ use Rattle.reading.specs.Grammar.{
 }
 use Rattle.reading.proofs.Grammar.{every-encoding, zero-free, same-charges}
 use Rattle.laying.specs.Laying.{
+  bufferAfter,
   createRequestBytes,
   createResponseBytes,
   dataFirstBytes,
@@ -56,7 +57,9 @@ use Rattle.laying.proofs.Encoded.{
   caps-request-1-encoded,
   caps-request-encoded,
 }
-use Rattle.writing.specs.Writing.{judged, written, bufferAfter, badRequest, badVersion, allZero, badCapabilities}
+use Rattle.reading.specs.Reading.{badVersion}
+use Rattle.reading.proofs.Placed.{good-version}
+use Rattle.writing.specs.Writing.{judged, written, outcome, badRequest, allZero, badCapabilities}
 use Rattle.writing.specs.ReadBack.{ReadsBack}
 use Rattle.writing.specs.declared.Written.{Written}
 use Rattle.writing.specs.declared.Written.the-variants.{Length, Refused}
@@ -75,9 +78,9 @@ pub record Went (bad : Bool) (pdu after : List ℕ) (n : ℕ) : Type 0 where
   pub stands : take n after ≡ pdu
 
 pub went :
-    (bad : Bool) (pdu out after : List ℕ) (r : Written) (n : ℕ) → r ≡ written bad pdu out → after ≡ bufferAfter r pdu out → r ≡ Length n
+    (bad : Bool) (pdu out after : List ℕ) (r : Written) (n : ℕ) → r ≡ written bad pdu out → after ≡ bufferAfter (outcome r) pdu out → r ≡ Length n
     → Went bad pdu after n
-unfolding written judged bufferAfter
+unfolding written judged outcome bufferAfter
 went bad pdu out after r n e f g = go (ltb (length out) PDU-MAX) bad (ltb PDU-MAX (length pdu)) refl refl refl (sym e ∙ g)
   where
     go :
@@ -132,13 +135,6 @@ create-request-reads number class name h = reads-back true _ _ _ good
         let p = neither (ltb 3 class) (ltb (place isZero name) (length name)) g in
         create-request-encoded number h class name (ltb-false 3 class (p .0)) (zero-free name (ltb-false (place isZero name) (length name) (p .1)))
 
--- a good version is 1 to 3
-good-version : (version : ℕ) → badVersion version ≡ false → (1 ≤ version) × (version ≤ 3)
-unfolding badVersion
-good-version version e =
-    let p = neither (ltb version 1) (ltb 3 version) e in
-    (ltb-false version 1 (p .0), ltb-false 3 version (p .1))
-
 pub caps-response-reads : (version : ℕ) → ReadsBack false (badVersion version) (capsResponseBytes version) (capabilities-response version)
 caps-response-reads version = reads-back false _ _ _ (λ g. let v = good-version version g in caps-response-encoded version (v .0) (v .1))
 
@@ -181,7 +177,7 @@ caps-request-reads version charges f = reads-back true _ _ _ (caps-request-good 
 -- an outcome that a contract permits
 on-contract :
     (fromServer bad : Bool) (pdu : List ℕ) (v : Value) → ReadsBack fromServer bad pdu v → (out after : List ℕ) (r : Written) (n : ℕ)
-    → r ≡ written bad pdu out → after ≡ bufferAfter r pdu out → r ≡ Length n → readAs fromServer (take n after) ≡ values v
+    → r ≡ written bad pdu out → after ≡ bufferAfter (outcome r) pdu out → r ≡ Length n → readAs fromServer (take n after) ≡ values v
 on-contract fromServer bad pdu v t out after r n e f g = rw (f, e) (t out n (sym e ∙ g))
 
 pub close-back :

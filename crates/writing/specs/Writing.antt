@@ -6,50 +6,41 @@ use lib.Dec.{ltb, eqb}
 use lib.ListN.{length}
 use Rattle.paper.specs.Sizes.{PDU-MAX}
 use Rattle.paper.specs.Refusals.{refusalNumber}
-use Rattle.paper.specs.Rows.{Row, row, Outcome, done, refusal}
-use Rattle.paper.specs.declared.Refusal.{Refusal}
+use Rattle.paper.specs.Rows.{refuse, Row, row, Outcome, done, refusal}
 use Rattle.paper.specs.declared.Refusal.the-variants.{BadCall, BadField, OverLimit}
 use Rattle.lists.specs.Places.{place}
-use Rattle.lists.specs.Bytes.{laid, isZero}
+use Rattle.lists.specs.Bytes.{isZero}
+use Rattle.reading.specs.Reading.{badVersion}
 use Rattle.reading.specs.declared.Charges.{Charges}
 use Rattle.writing.specs.declared.Written.{Written}
 use Rattle.writing.specs.declared.Written.the-variants.{Length, Refused}
 
--- the refusal where the test holds, and else the rest
-abbrev pub refuse : Refusal → Bool → Written → Written
-refuse why test rest = cond test (Refused why) rest
-
 -- 1: the buffer is not of its size; 5: a value is bad; 11: "a PDU that would pass 1,600"
 unfoldable pub judged : ℕ → Bool → ℕ → Written
 judged room bad len =
-    refuse BadCall (ltb room PDU-MAX)
-    (refuse BadField bad
-    (refuse OverLimit (ltb PDU-MAX len)
+    refuse (Refused BadCall) (ltb room PDU-MAX)
+    (refuse (Refused BadField) bad
+    (refuse (Refused OverLimit) (ltb PDU-MAX len)
     (Length len)))
 
 -- what writing a PDU answers
 unfoldable pub written : Bool → List ℕ → List ℕ → Written
 written bad pdu out = judged (length out) bad (length pdu)
 
--- "Bytes of a reply or PDU buffer behind the written ones stay." "Store, reply
--- and PDU buffer are unchanged by every refusal."
-unfoldable pub bufferAfter : Written → List ℕ → List ℕ → List ℕ
-bufferAfter (Length n) pdu out = laid out 0 pdu
-bufferAfter (Refused why) pdu out = out
+-- the answer in the paper's terms: the PDU's length, or the refusal's number
+unfoldable pub outcome : Written → Outcome ℕ
+outcome (Length n) = done n
+outcome (Refused why) = refusal (refusalNumber why)
 
 -- 5 "on writing: a name with a zero byte [..], a class over 3"
 unfoldable pub badRequest : ℕ → List ℕ → Bool
 badRequest class name = ltb 3 class || ltb (place isZero name) (length name)
 
--- "such a Version": not 1 to 3
-unfoldable pub badVersion : ℕ → Bool
-badVersion version = ltb version 1 || ltb 3 version
-
 unfoldable pub allZero : Charges → Bool
 allZero charges =
     eqb (charges .class0) 0 && (eqb (charges .class1) 0 && (eqb (charges .class2) 0 && eqb (charges .class3) 0))
 
--- "or charges other than 0 with version 1 (read as 0)"
+-- "such a Version", "or charges other than 0 with version 1 (read as 0)"
 unfoldable pub badCapabilities : ℕ → Charges → Bool
 badCapabilities version charges = cond (eqb version 1) (not (allZero charges)) (badVersion version)
 
@@ -57,12 +48,7 @@ badCapabilities version charges = cond (eqb version 1) (not (allZero charges)) (
 unfoldable pub requestLength : ℕ → ℕ
 requestLength version = cond (eqb version 1) 4 12
 
--- ---- the answer in the paper's terms, and the refusals as rows
-
--- the PDU's length, or the refusal's number
-unfoldable pub outcome : Written → Outcome ℕ
-outcome (Length n) = done n
-outcome (Refused why) = refusal (refusalNumber why)
+-- ---- the refusals as rows
 
 -- "Writing: 1, 5, 11."
 unfoldable pub writingRows : Bool → List ℕ → List ℕ → List Row

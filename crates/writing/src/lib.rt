@@ -8,10 +8,11 @@ use reading::Charges;
 ghost use mathlib.Core.Path.{_≡_};
 ghost use mathlib.Core.Bool.{false};
 ghost use lib.ListN;
-ghost use Rattle.laying.specs.Laying.{createRequestBytes, createResponseBytes, dataFirstBytes, dataBytes, closeBytes};
+ghost use Rattle.reading.specs.Reading.{badVersion};
+ghost use Rattle.laying.specs.Laying.{bufferAfter, createRequestBytes, createResponseBytes, dataFirstBytes, dataBytes, closeBytes};
 ghost use Rattle.laying.specs.Laying.{capsRequestBytes, capsResponseBytes};
-ghost use Rattle.writing.specs.Writing.{judged, written, bufferAfter};
-ghost use Rattle.writing.specs.Writing.{badRequest, badVersion, badCapabilities, allZero, requestLength};
+ghost use Rattle.writing.specs.Writing.{judged, written, outcome};
+ghost use Rattle.writing.specs.Writing.{badRequest, badCapabilities, allZero, requestLength};
 
 // What writing answers.
 pub enum Written {
@@ -94,7 +95,7 @@ fn request_length(version: u16) -> usize
 pub fn write_create_request(out: &mut [u8], number: u32, class: u8, name: &[u8]) -> Written
     ensures { λ r. ⌜ r ≡ written (badRequest class (now (name .entry)))
         (createRequestBytes number class (now (name .entry))) (now (out .entry)) ⌝ }
-    ensures { λ r. ⌜ now (out .exit) ≡ bufferAfter r (createRequestBytes number class (now (name .entry))) (now (out .entry)) ⌝ }
+    ensures { λ r. ⌜ now (out .exit) ≡ bufferAfter (outcome r) (createRequestBytes number class (now (name .entry))) (now (out .entry)) ⌝ }
 {
     let length = 1 + numbers::narrow(number) + name.len() + 1;
     let answer = judge(out.len(), bad_request(class, name), length);
@@ -106,7 +107,7 @@ pub fn write_create_request(out: &mut [u8], number: u32, class: u8, name: &[u8])
 
 pub fn write_create_response(out: &mut [u8], number: u32, status: i32) -> Written
     ensures { λ r. ⌜ r ≡ written false (createResponseBytes number status) (now (out .entry)) ⌝ }
-    ensures { λ r. ⌜ now (out .exit) ≡ bufferAfter r (createResponseBytes number status) (now (out .entry)) ⌝ }
+    ensures { λ r. ⌜ now (out .exit) ≡ bufferAfter (outcome r) (createResponseBytes number status) (now (out .entry)) ⌝ }
 {
     let length = 1 + numbers::narrow(number) + 4;
     let answer = judge(out.len(), false, length);
@@ -118,7 +119,7 @@ pub fn write_create_response(out: &mut [u8], number: u32, status: i32) -> Writte
 
 pub fn write_data_first(out: &mut [u8], number: u32, length: u32, block: &[u8]) -> Written
     ensures { λ r. ⌜ r ≡ written false (dataFirstBytes number length (now (block .entry))) (now (out .entry)) ⌝ }
-    ensures { λ r. ⌜ now (out .exit) ≡ bufferAfter r (dataFirstBytes number length (now (block .entry))) (now (out .entry)) ⌝ }
+    ensures { λ r. ⌜ now (out .exit) ≡ bufferAfter (outcome r) (dataFirstBytes number length (now (block .entry))) (now (out .entry)) ⌝ }
 {
     let long = 1 + numbers::narrow(number) + numbers::narrow(length) + block.len();
     let answer = judge(out.len(), false, long);
@@ -130,7 +131,7 @@ pub fn write_data_first(out: &mut [u8], number: u32, length: u32, block: &[u8]) 
 
 pub fn write_data(out: &mut [u8], number: u32, block: &[u8]) -> Written
     ensures { λ r. ⌜ r ≡ written false (dataBytes number (now (block .entry))) (now (out .entry)) ⌝ }
-    ensures { λ r. ⌜ now (out .exit) ≡ bufferAfter r (dataBytes number (now (block .entry))) (now (out .entry)) ⌝ }
+    ensures { λ r. ⌜ now (out .exit) ≡ bufferAfter (outcome r) (dataBytes number (now (block .entry))) (now (out .entry)) ⌝ }
 {
     let length = 1 + numbers::narrow(number) + block.len();
     let answer = judge(out.len(), false, length);
@@ -142,7 +143,7 @@ pub fn write_data(out: &mut [u8], number: u32, block: &[u8]) -> Written
 
 pub fn write_close(out: &mut [u8], number: u32) -> Written
     ensures { λ r. ⌜ r ≡ written false (closeBytes number) (now (out .entry)) ⌝ }
-    ensures { λ r. ⌜ now (out .exit) ≡ bufferAfter r (closeBytes number) (now (out .entry)) ⌝ }
+    ensures { λ r. ⌜ now (out .exit) ≡ bufferAfter (outcome r) (closeBytes number) (now (out .entry)) ⌝ }
 {
     let answer = judge(out.len(), false, 1 + numbers::narrow(number));
     if let Written::Length(_) = answer {
@@ -153,7 +154,7 @@ pub fn write_close(out: &mut [u8], number: u32) -> Written
 
 pub fn write_capabilities_request(out: &mut [u8], version: u16, charges: Charges) -> Written
     ensures { λ r. ⌜ r ≡ written (badCapabilities version charges) (capsRequestBytes version charges) (now (out .entry)) ⌝ }
-    ensures { λ r. ⌜ now (out .exit) ≡ bufferAfter r (capsRequestBytes version charges) (now (out .entry)) ⌝ }
+    ensures { λ r. ⌜ now (out .exit) ≡ bufferAfter (outcome r) (capsRequestBytes version charges) (now (out .entry)) ⌝ }
 {
     let answer = judge(
         out.len(),
@@ -168,7 +169,7 @@ pub fn write_capabilities_request(out: &mut [u8], version: u16, charges: Charges
 
 pub fn write_capabilities_response(out: &mut [u8], version: u16) -> Written
     ensures { λ r. ⌜ r ≡ written (badVersion version) (capsResponseBytes version) (now (out .entry)) ⌝ }
-    ensures { λ r. ⌜ now (out .exit) ≡ bufferAfter r (capsResponseBytes version) (now (out .entry)) ⌝ }
+    ensures { λ r. ⌜ now (out .exit) ≡ bufferAfter (outcome r) (capsResponseBytes version) (now (out .entry)) ⌝ }
 {
     let answer = judge(out.len(), bad_version(version), 4);
     if let Written::Length(_) = answer {

@@ -38,7 +38,7 @@ returns-8 c = rw (c .enum-told5 .given .1)
 
 returns-9 : tie.Need-returns-9
 unfolding numberOf
-returns-9 c = rw (c .before .before .answer5 .given .1) (c .number .ensures)
+returns-9 c = rw (c .before .before .answer5 .given .1) (c .refusal-number .ensures)
 
 pub value-spec : {M : Type 1} → statement M
 value-spec =

@@ -46,7 +46,7 @@ returns-2 : tie.Need-returns-2
 unfolding packed
 returns-2 c =
     let cut = c .before .before .before .before .before .before .cut .ensures in
-    (c .number .ensures ∙ sym (ap packed (sym (cut .0) ∙ c .before .before .piece2 .given .1)), cut .1)
+    (c .refusal-number .ensures ∙ sym (ap packed (sym (cut .0) ∙ c .before .before .piece2 .given .1)), cut .1)
 
 pub dvc-cut-spec : {M : Type 1} → statement M
 dvc-cut-spec =

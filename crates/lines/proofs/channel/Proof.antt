@@ -15,7 +15,7 @@ returns c =
 
 returns-2 : tie.Need-returns-2
 unfolding channelField
-returns-2 c = rw (c .before .before .before .before .before .concern .given .1) (c .before .before .number .ensures)
+returns-2 c = rw (c .before .before .before .before .before .concern .given .1) (c .before .before .field .ensures)
 
 pub channel-spec : {M : Type 1} → statement M
 channel-spec =

@@ -13,7 +13,7 @@ add-result : tie.Need-add-result
 add-result c =
     omega (
       arith,
-      c .before .before .before .before .before .before .before .number .ensures .0 .1,
+      c .before .before .before .before .before .before .before .field .ensures .0 .1,
       c .before .before .text .ensures .0,
     )
 
@@ -23,7 +23,7 @@ returns c =
     let at-number = c .before .before .before .before .before .before .before in
     let start = at-number .before .before .before in
     let a = start .args in
-    let placed = at-number .number .ensures in
+    let placed = at-number .field .ensures in
     let worded = c .before .before .text .ensures in (
       (ends (field (a .place) SPACE) _ (placed .0 .0) (worded .0), omega (arith, placed .0 .1, worded .0)),
       laid-next (now (a .out)) _ _ (field (a .place) SPACE) _ _ (placed .0 .0) (placed .1) (worded .1),

@@ -13,20 +13,20 @@ use Rattle.lines.proofs.line.Statement.{statement}
 use Rattle.lines.proofs.line.Tie as tie
 
 -- how long the line is at most, field by field
-worded : (c : tie.After-word) → c .before .before .before .before .number .result + c .word .result ≤ FIELD-MAX + WORD-MAX
-worded c = omega (arith, c .before .before .before .before .number .ensures .0 .1, c .word .ensures .0 .1)
+worded : (c : tie.After-word) → c .before .before .before .before .field .result + c .word .result ≤ FIELD-MAX + WORD-MAX
+worded c = omega (arith, c .before .before .before .before .field .ensures .0 .1, c .word .ensures .0 .1)
 
 concerned : (c : tie.After-channel) → c .channel .result ≤ FIELD-MAX
 concerned c = c .channel .ensures .0 .1
 
-valued : (c : tie.After-number2) → c .number2 .result ≤ FIELD-MAX
-valued c = c .number2 .ensures .0 .1
+valued : (c : tie.After-field2) → c .field2 .result ≤ FIELD-MAX
+valued c = c .field2 .ensures .0 .1
 
 -- the places of the fields, each from the one behind it
 abbrev word-of : tie.After-channel → tie.After-word
 word-of c = c .before .before .before .before .before
 
-abbrev channel-of : tie.After-number2 → tie.After-channel
+abbrev channel-of : tie.After-field2 → tie.After-channel
 channel-of c = c .before .before .before .before .before
 
 add-worded : tie.Need-add-worded
@@ -44,7 +44,7 @@ add-result : tie.Need-add-result
 add-result c =
     let number2 = c .before .before .before .before .before .before in
     let channel = channel-of number2 in
-    let last = c .before .before .number3 .ensures .0 .1 in
+    let last = c .before .before .field3 .ensures .0 .1 in
     omega (arith, worded (word-of channel), concerned channel, valued number2, last)
 
 returns : tie.Need-returns
@@ -64,11 +64,11 @@ returns c =
     let f3 = channelField (concernOf (a .answer)) in
     let f4 = field (numberOf (a .answer)) SPACE in
     let f5 = field (a .sent) LF in
-    let p1 = at-number .number .ensures in
+    let p1 = at-number .field .ensures in
     let p2 = at-word .word .ensures in
     let p3 = rw (at-concern .concerns .ensures) at (at-channel .channel .ensures) in
-    let p4 = rw (at-value .value .ensures) at (at-number2 .number2 .ensures) in
-    let p5 = c .before .before .number3 .ensures in
+    let p4 = rw (at-value .value .ensures) at (at-number2 .field2 .ensures) in
+    let p5 = c .before .before .field3 .ensures in
     let n2 = ends f1 f2 (p1 .0 .0) (p2 .0 .0) in
     let n3 = ends (f1 ++ f2) f3 n2 (p3 .0 .0) in
     let n4 = ends ((f1 ++ f2) ++ f3) f4 n3 (p4 .0 .0) in

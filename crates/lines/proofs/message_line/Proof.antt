@@ -29,11 +29,11 @@ lent-long c =
 lesser-requires : tie.Need-lesser-requires
 lesser-requires c κs = search needs
 
-number-requires : tie.Need-number-requires
-number-requires c κs = search needs
+field-requires : tie.Need-field-requires
+field-requires c κs = search needs
 
-number-requires-2 : tie.Need-number-requires-2
-number-requires-2 c κs = search needs
+field-requires-2 : tie.Need-field-requires-2
+field-requires-2 c κs = search needs
 
 add-numbered : tie.Need-add-numbered
 add-numbered c = search needs
@@ -46,7 +46,7 @@ unfolding MESSAGE-MAX
 message-bytes-requires c κs =
     let numbered = c .before .before .before .before in
     let placed = numbered .before .before .before .before in
-    (omega (arith, placed .number .ensures .0 .1, numbered .number2 .ensures .0 .1), omega (arith, lent-long c, placed .before .before .lesser .ensures))
+    (omega (arith, placed .field .ensures .0 .1, numbered .field2 .ensures .0 .1), omega (arith, lent-long c, placed .before .before .lesser .ensures))
 
 add-told : tie.Need-add-told
 unfolding MESSAGE-MAX
@@ -54,7 +54,7 @@ add-told c =
     let told = c .before .before in
     let numbered = told .before .before .before .before .before in
     let placed = numbered .before .before .before .before in
-    omega (arith, placed .number .ensures .0 .1, numbered .number2 .ensures .0 .1, told .message-bytes .ensures .0 .1)
+    omega (arith, placed .field .ensures .0 .1, numbered .field2 .ensures .0 .1, told .message-bytes .ensures .0 .1)
 
 slice-aggregate-text : tie.Need-slice-aggregate-text
 slice-aggregate-text c = search needs
@@ -68,7 +68,7 @@ add-result c =
     let told = c .before .before .before .before .before .before .before in
     let numbered = told .before .before .before .before .before in
     let placed = numbered .before .before .before .before in
-    omega (arith, placed .number .ensures .0 .1, numbered .number2 .ensures .0 .1, told .message-bytes .ensures .0 .1, c .before .before .text .ensures .0)
+    omega (arith, placed .field .ensures .0 .1, numbered .field2 .ensures .0 .1, told .message-bytes .ensures .0 .1, c .before .before .text .ensures .0)
 
 same-length : tie.Need-same-length
 same-length c = search needs
@@ -87,8 +87,8 @@ returns c =
     let f2 = field (a .number) SPACE in
     let f3 = bytesField (take 4096 bytes) in
     let f4 = LF ∷ [] in
-    let p1 = placed .number .ensures in
-    let p2 = numbered .number2 .ensures in
+    let p1 = placed .field .ensures in
+    let p2 = numbered .field2 .ensures in
     let p3 = rw (lent .lesser .ensures, take-least 4096 bytes) at (told .message-bytes .ensures) in
     let p4 = c .before .before .text .ensures in
     let n2 = ends f1 f2 (p1 .0 .0) (p2 .0 .0) in
@@ -104,8 +104,8 @@ message-line-spec =
     tie.close
     (tie.spec
     lesser-requires
-    number-requires
-    number-requires-2
+    field-requires
+    field-requires-2
     add-numbered
     slice-aggregate-message-bytes
     message-bytes-requires

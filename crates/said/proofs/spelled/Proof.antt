@@ -28,13 +28,13 @@ unfolding spelledOut laid
 loop-holds c = (omega arith, omega arith, refl, refl)
 
 add-end : tie.Need-add-end Inv-loop μ-loop
-add-end c = omega (arith, c .before .before .number .ensures .0 .1)
+add-end c = omega (arith, c .before .before .field .ensures .0 .1)
 
 loop-again : tie.Need-loop-again Inv-loop μ-loop
 loop-again c =
     let at = c .before .before .before .before .before in
     let numbers = at .before .before .args .t2 in
-    let new = c .before .before .number .ensures in
+    let new = c .before .before .field .ensures in
     let front = spelledOut (take (at .loop .i) numbers) in
     let one = field (getD numbers (at .loop .i) 0) SPACE in
     rw (add-one, spelled-on numbers (at .loop .i) (omega arith)) (

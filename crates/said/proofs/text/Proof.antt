@@ -35,7 +35,7 @@ returns c =
     rw (rows .row .ensures) (row-says (now (a .pdu)) (a .read) .1) in
     let lent = lending .bytes-at .ensures ∙ bytes in
     let p1 = rw numbers at (spelling .spelled .ensures) in
-    let p2 = rw lent at (counting .number .ensures) in
+    let p2 = rw lent at (counting .field .ensures) in
     let p3 = rw lent at (c .before .before .text .ensures) in
     let f1 = spelledOut (numbersIn says) in
     let f2 = field (length (bytesIn says)) COLON in

@@ -4,11 +4,6 @@ use Prim.Native.Nat.{ℕ, _+_, _≤_}
 use denote.Ref.{now}
 use lib.ListN.{length, take}
 use Rattle.paper.specs.Sizes.{PART, PARTS, MESSAGE-MAX}
-use Rattle.lists.proofs.Arrays.{length-mapped}
-use Rattle.lists.proofs.Places.{place-le}
-use Rattle.store.specs.Parts.{part}
-use Rattle.table.specs.declared.Found.{Found}
-use Rattle.table.specs.Table.{holds, numberPlace, foundIn}
 use Rattle.walking.specs.Walking.{handedUp}
 use Rattle.walking.proofs.Records.{message-lent}
 use borrow.Author.Needs.{needs}
@@ -16,16 +11,9 @@ use native.Mathlib.Omega.{arith}
 use Rattle.walking.proofs.message.Statement.{statement}
 use Rattle.walking.proofs.message.Tie as tie
 
-find-number-requires : tie.Need-find-number-requires
-find-number-requires c κs = search needs
-
 mul-lesser : tie.Need-mul-lesser
-unfolding foundIn numberPlace PARTS
-mul-lesser c =
-    let a = c .before .before .before .before .args in
-    let rows : length (a .table .records) ≡ PARTS = search (needs, length-mapped) in
-    let there = rw (← (ap (λ (f : Found). f .place) (c .before .find-number .ensures))) at (place-le (holds (a .number)) (a .table .records)) in
-    omega arith
+unfolding PARTS
+mul-lesser c = search needs
 
 lesser-requires : tie.Need-lesser-requires
 lesser-requires c κs = search needs
@@ -58,25 +46,21 @@ same-length : tie.Need-same-length
 same-length c = search needs
 
 returns : tie.Need-returns
-unfolding handedUp PART MESSAGE-MAX foundIn
+unfolding handedUp PART MESSAGE-MAX
 returns c =
     let line = c .before .before in
     let to = line .before .before .before in
     let from = to .before .before in
-    let found = from .before .before in
-    let a = found .before .before .before .args in
+    let a = from .before .before .before .args in
     let start = from .lesser .ensures in
     let end = ap (λ (x : ℕ). from .lesser .result + x) (rw (to .before .lesser2 .ensures) at (to .lesser3 .ensures)) in
-    let lent = message-lent (now (a .store)) (found .find-number .result .place) (a .len) (from .lesser .result) _ start end in
-    let k = ap (λ (f : Found). f .place) (found .find-number .ensures) in
-    let bytes = lent ∙ ap (λ (x : ℕ). take (a .len) (part (now (a .store)) x)) k in
-    rw bytes at (line .message-line .ensures)
+    let lent = message-lent (now (a .store)) (a .at) (a .len) (from .lesser .result) _ start end in
+    rw lent at (line .message-line .ensures)
 
 pub message-spec : {M : Type 1} → statement M
 message-spec =
     tie.close
     (tie.spec
-    find-number-requires
     mul-lesser
     lesser-requires
     lesser-requires-2

@@ -1,5 +1,6 @@
 -- `walking::step` meets its contract: what the client's step gives goes into the text.
 use Rattle.walking.specs.Walking.{afterRecord, program}
+use Rattle.walking.proofs.Records.{beside}
 use borrow.Author.Needs.{needs}
 use Rattle.walking.proofs.step.Statement.{statement}
 use Rattle.walking.proofs.step.Tie as tie
@@ -8,7 +9,7 @@ answered-requires : tie.Need-answered-requires
 answered-requires c κs = search needs
 
 text-for-requires : tie.Need-text-for-requires
-text-for-requires c κs = search needs
+text-for-requires c κs = rw (c .before .before .before .before .answered .ensures .0) (beside _ _ _ _)
 
 wrapping-add-u64-requires : tie.Need-wrapping-add-u64-requires
 wrapping-add-u64-requires c κs = search needs

@@ -1,5 +1,10 @@
 -- `walking::text_for` meets its contract: each arm is a case of the definition.
-use Rattle.walking.specs.Walking.{textFor, roomFor}
+use mathlib.Core.Path.{_≡_}
+use lib.ListN.{length}
+use Rattle.paper.specs.Sizes.{PARTS}
+use Rattle.lists.proofs.Arrays.{length-mapped}
+use Rattle.walking.specs.Walking.{placeIn, textFor, roomFor}
+use Rattle.walking.proofs.Records.{at-most}
 use borrow.Author.Needs.{needs}
 use Rattle.walking.proofs.text_for.Statement.{statement}
 use Rattle.walking.proofs.text_for.Tie as tie
@@ -14,7 +19,11 @@ enum-told-2 : tie.Need-enum-told-2
 enum-told-2 c = search needs
 
 message-text-requires : tie.Need-message-text-requires
-message-text-requires c κs = search needs
+unfolding placeIn PARTS
+message-text-requires c κs =
+    let start = c .before .before .before .before .before in
+    let rows : length (start .args .received .table .records) ≡ PARTS = search (needs, length-mapped, start .good) in
+    rw (start .pre) (at-most _ _ rows)
 
 enum-told-3 : tie.Need-enum-told-3
 enum-told-3 c = search needs

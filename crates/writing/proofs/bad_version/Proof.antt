@@ -1,5 +1,5 @@
 -- `writing::bad_version` meets its contract: its tests are the definition's.
-use Rattle.writing.specs.Writing.{badVersion}
+use Rattle.reading.specs.Reading.{badVersion}
 use Rattle.lists.proofs.Cases.{tests}
 use Rattle.writing.proofs.bad_version.Statement.{statement}
 use Rattle.writing.proofs.bad_version.Tie as tie

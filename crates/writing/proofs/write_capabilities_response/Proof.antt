@@ -4,7 +4,8 @@ use mathlib.Core.Path.{_≡_, sym}
 use denote.Ref.{now}
 use Rattle.laying.specs.Laying.{capsResponseBytes}
 use Rattle.laying.proofs.Lengths.{length-caps-response}
-use Rattle.writing.specs.Writing.{written, badVersion}
+use Rattle.reading.specs.Reading.{badVersion}
+use Rattle.writing.specs.Writing.{written}
 use Rattle.writing.proofs.Answers.{answered, laid-so, refused-so}
 use borrow.Author.Needs.{needs}
 use Rattle.writing.proofs.write_capabilities_response.Statement.{statement}

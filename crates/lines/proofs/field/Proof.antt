@@ -1,4 +1,4 @@
--- `lines::number` meets its contract: the scratch from the field's start on is the field.
+-- `lines::field` meets its contract: the scratch from the field's start on is the field.
 use mathlib.Core.Path.{_≡_, ap, _∙_}
 use Prim.Native.Nat.{_-_}
 use denote.Ref.{now}
@@ -8,8 +8,8 @@ use Rattle.lists.proofs.Laid.{to-end}
 use Rattle.lines.specs.Decimal.{field}
 use borrow.Author.Needs.{needs}
 use native.Mathlib.Omega.{arith}
-use Rattle.lines.proofs.number.Statement.{statement}
-use Rattle.lines.proofs.number.Tie as tie
+use Rattle.lines.proofs.field.Statement.{statement}
+use Rattle.lines.proofs.field.Tie as tie
 
 returns : tie.Need-returns
 returns c =
@@ -24,8 +24,8 @@ returns c =
           (rw (spelt .1) at (to-end (found .bytes) (found .start)) ∙ spelt .2),
     )
 
-pub number-spec : {M : Type 1} → statement M
-number-spec =
+pub field-spec : {M : Type 1} → statement M
+field-spec =
     tie.close
     (tie.spec
     (λ c κs. search needs) (λ c. search needs) (λ c. search needs) (λ c. search needs) (λ c κs. search needs)
