@@ -11,16 +11,8 @@ use Rattle.lists.proofs.Cases.{lt-or-le}
 use Rattle.lists.proofs.Laid.{from-to, take-least}
 use Rattle.reading.specs.declared.Extent.{Extent}
 use Rattle.reading.specs.declared.Pdu.{Pdu}
-use Rattle.reading.specs.declared.Pdu.the-variants.{
-  CreateRequest,
-  CreateResponse,
-  DataFirst,
-  Data,
-  Close,
-  CapsRequest,
-  CapsResponse,
-  Refused,
-}
+use Rattle.reading.specs.declared.Pdu.the-variants.{CreateRequest, CreateResponse, DataFirst, Data, Close}
+use Rattle.reading.specs.declared.Pdu.the-variants.{CapsRequest, CapsResponse, Refused}
 use Rattle.reading.specs.Said.{bytesAt}
 use Rattle.listeners.specs.Listeners.{goodList, isListed}
 use Rattle.channel.specs.declared.Ask.the-variants.{NoList, Name}

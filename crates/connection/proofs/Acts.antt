@@ -19,28 +19,8 @@ use Rattle.channel.specs.declared.Offer.the-variants.{First, More}
 use Rattle.channel.specs.declared.Took.{Took}
 use Rattle.channel.specs.declared.Took.the-variants.{Bars, Spoils, Holds, Finishes}
 use Rattle.channel.specs.Stages.{added, tookFirst, took}
-use Rattle.channel.specs.Channel.{
-  Act,
-  BadCreate,
-  Create,
-  Bring,
-  Closing,
-  LocalClose,
-  View,
-  Shut,
-  Open,
-  Room,
-  NoRoom,
-  Spare,
-  classAt,
-  openedRecord,
-  restaged,
-  opening,
-  stageAfter,
-  partAfter,
-  landed,
-  act,
-}
+use Rattle.channel.specs.Channel.{Act, BadCreate, Create, Bring, Closing, LocalClose, View, Shut, Open, Room, NoRoom}
+use Rattle.channel.specs.Channel.{Spare, classAt, openedRecord, restaged, opening, stageAfter, partAfter, landed, act}
 use Rattle.table.specs.Table.{holds, recordAt, numberPlace}
 use Rattle.table.specs.Sound.{goodStage}
 use Rattle.table.proofs.Twice.{holds-own}

@@ -20,24 +20,8 @@ use Rattle.channel.specs.declared.Change.the-variants.{Stays, Becomes, Frees}
 use Rattle.channel.specs.declared.Part.{Part}
 use Rattle.channel.specs.declared.Part.the-variants.{Keeps, Takes, Clears}
 use Rattle.channel.specs.declared.Turn.{Turn}
-use Rattle.channel.specs.Channel.{
-  blank,
-  Act,
-  BadCreate,
-  Create,
-  Bring,
-  Closing,
-  LocalClose,
-  View,
-  Shut,
-  Open,
-  Room,
-  NoRoom,
-  Spare,
-  Did,
-  act,
-  opening,
-}
+use Rattle.channel.specs.Channel.{blank, Act, BadCreate, Create, Bring, Closing, LocalClose, View, Shut, Open, Room}
+use Rattle.channel.specs.Channel.{NoRoom, Spare, Did, act, opening}
 use Rattle.channel.specs.Turns.{turnOf, viewOf, roomOf, actOf, partTold, replyTold}
 use Rattle.channel.proofs.Turns.{Comes, Tells, turn-rules, view-open as seen-open}
 use Rattle.table.specs.declared.Table.{Table}

@@ -14,43 +14,13 @@ use Rattle.numbers.specs.Numbers.{NUMBERS, bytesOf, codeFor, narrowest, narrowB
 use Rattle.numbers.specs.Status.{statusBytes}
 use Rattle.numbers.proofs.Widths.{narrow-holds, code-le}
 use Rattle.reading.specs.declared.Charges.{Charges}
-use Rattle.reading.specs.Grammar.{
-  create-request,
-  create-response,
-  data-first,
-  data-block,
-  close,
-  capabilities-request,
-  capabilities-response,
-  InWidth,
-  carrying,
-  NoZero,
-  SmallCharges,
-  noCharges,
-  chargeBytes,
-  versioned,
-  Encodes,
-  create-request-is,
-  create-response-is,
-  data-first-is,
-  data-is,
-  close-is,
-  capabilities-1-is,
-  capabilities-is,
-  capabilities-response-is,
-}
-use Rattle.laying.specs.Laying.{
-  headOf,
-  createRequestBytes,
-  createResponseBytes,
-  dataFirstHead,
-  dataFirstBytes,
-  dataBytes,
-  closeBytes,
-  capsHead,
-  capsRequestBytes,
-  capsResponseBytes,
-}
+use Rattle.reading.specs.Grammar.{create-request, create-response, data-first, data-block, close}
+use Rattle.reading.specs.Grammar.{capabilities-request, capabilities-response, InWidth, carrying, NoZero}
+use Rattle.reading.specs.Grammar.{SmallCharges, noCharges, chargeBytes, versioned, Encodes, create-request-is}
+use Rattle.reading.specs.Grammar.{create-response-is, data-first-is, data-is, close-is, capabilities-1-is}
+use Rattle.reading.specs.Grammar.{capabilities-is, capabilities-response-is}
+use Rattle.laying.specs.Laying.{headOf, createRequestBytes, createResponseBytes, dataFirstHead, dataFirstBytes}
+use Rattle.laying.specs.Laying.{dataBytes, closeBytes, capsHead, capsRequestBytes, capsResponseBytes}
 
 -- a number in its narrowest width
 in-narrowest : (number : ℕ) → number < NUMBERS → InWidth (codeFor number) number

@@ -26,71 +26,23 @@ use Rattle.numbers.specs.Numbers.{Bytes, little, bytesOf, valueOf, valueAt, wid
 use Rattle.numbers.specs.Status.{statusOf, statusBytes, signedOf}
 use Rattle.numbers.proofs.Widths.{length-bytesOf, width-le, value-in, value-below, little-below, bytesOf-little}
 use Rattle.numbers.proofs.Signs.{length-status, status-built, status-split}
-use Rattle.reading.specs.Reading.{
-  readPdu,
-  byCommand,
-  numbered,
-  badLengthWidth,
-  afterNumber,
-  createRequest,
-  namedFor,
-  createResponse,
-  dataFirst,
-  closing,
-  capabilities,
-  badVersion,
-  byVersion,
-  charged,
-}
+use Rattle.reading.specs.Reading.{readPdu, byCommand, numbered, badLengthWidth, afterNumber, createRequest}
+use Rattle.reading.specs.Reading.{namedFor, createResponse, dataFirst, closing, capabilities, badVersion}
+use Rattle.reading.specs.Reading.{byVersion, charged}
 use Rattle.reading.specs.Said.{bytesAt}
 use Rattle.reading.specs.declared.Charges.{Charges}
 use Rattle.reading.specs.declared.Pdu.{Pdu}
-use Rattle.reading.specs.declared.Pdu.the-variants.{
-  CreateRequest,
-  CreateResponse,
-  DataFirst,
-  Data,
-  Close,
-  CapsRequest,
-  CapsResponse,
-  Refused,
-}
+use Rattle.reading.specs.declared.Pdu.the-variants.{CreateRequest, CreateResponse, DataFirst, Data, Close}
+use Rattle.reading.specs.declared.Pdu.the-variants.{CapsRequest, CapsResponse, Refused}
 use Rattle.paper.proofs.Sizes.{twelve-fit}
 use Rattle.reading.proofs.Placed.{good-version}
 use Rattle.reading.proofs.Heads.{headIn, length-head-in, Headed, read-head}
-use Rattle.reading.specs.Grammar.{
-  Value,
-  create-request,
-  create-response,
-  data-first,
-  data-block,
-  close,
-  capabilities-request,
-  capabilities-response,
-  Read,
-  values,
-  refusal,
-  meant,
-  readAs,
-  InWidth,
-  firstByte,
-  carrying,
-  NoZero,
-  SmallCharges,
-  noCharges,
-  chargeBytes,
-  versioned,
-  Encodes,
-  create-request-is,
-  create-response-is,
-  data-first-is,
-  data-is,
-  close-is,
-  capabilities-1-is,
-  capabilities-is,
-  capabilities-response-is,
-  Exactly,
-}
+use Rattle.reading.specs.Grammar.{Value, create-request, create-response, data-first, data-block, close}
+use Rattle.reading.specs.Grammar.{capabilities-request, capabilities-response, Read, values, refusal, meant}
+use Rattle.reading.specs.Grammar.{readAs, InWidth, firstByte, carrying, NoZero, SmallCharges, noCharges}
+use Rattle.reading.specs.Grammar.{chargeBytes, versioned, Encodes, create-request-is, create-response-is}
+use Rattle.reading.specs.Grammar.{data-first-is, data-is, close-is, capabilities-1-is, capabilities-is}
+use Rattle.reading.specs.Grammar.{capabilities-response-is, Exactly}
 
 -- ---- every encoding is read
 

@@ -16,18 +16,8 @@ use Rattle.lists.specs.Bytes.{isZero}
 use Rattle.lists.proofs.Cases.{each}
 use Rattle.numbers.specs.Numbers.{bytesOf, valueAt, widthOf}
 use Rattle.numbers.proofs.Widths.{length-bytesOf, value-in, width-le}
-use Rattle.reading.specs.Reading.{
-  readPdu,
-  byCommand,
-  numbered,
-  badLengthWidth,
-  afterNumber,
-  createRequest,
-  namedFor,
-  createResponse,
-  dataFirst,
-  closing,
-}
+use Rattle.reading.specs.Reading.{readPdu, byCommand, numbered, badLengthWidth, afterNumber, createRequest}
+use Rattle.reading.specs.Reading.{namedFor, createResponse, dataFirst, closing}
 use Rattle.reading.specs.Said.{said, bytesAt}
 use Rattle.reading.specs.declared.Pdu.the-variants.{Data}
 

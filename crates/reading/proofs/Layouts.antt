@@ -20,53 +20,15 @@ use Rattle.lists.specs.Places.{place}
 use Rattle.numbers.specs.Numbers.{little, valueOf, valueAt, widthOf}
 use Rattle.paper.proofs.Rows.{held, passed, none-held}
 use Rattle.paper.specs.Rows.{Verdict, fine, refusedWith, Row, row, firstHeld}
-use Rattle.reading.specs.Reading.{
-  readPdu,
-  byCommand,
-  numbered,
-  badLengthWidth,
-  afterNumber,
-  createRequest,
-  namedFor,
-  createResponse,
-  dataFirst,
-  closing,
-  capabilities,
-  badVersion,
-  byVersion,
-  charged,
-}
+use Rattle.reading.specs.Reading.{readPdu, byCommand, numbered, badLengthWidth, afterNumber, createRequest}
+use Rattle.reading.specs.Reading.{namedFor, createResponse, dataFirst, closing, capabilities, badVersion}
+use Rattle.reading.specs.Reading.{byVersion, charged}
 use Rattle.reading.specs.declared.Pdu.{Pdu}
-use Rattle.reading.specs.declared.Pdu.the-variants.{
-  CreateRequest,
-  CreateResponse,
-  DataFirst,
-  Data,
-  Close,
-  CapsRequest,
-  CapsResponse,
-  Refused,
-}
-use Rattle.reading.specs.Layouts.{
-  Field,
-  any,
-  Tail,
-  no-more,
-  any-bytes,
-  a-name,
-  Layout,
-  pad,
-  versionField,
-  charges,
-  layoutOf,
-  rowsOfTail,
-  rowsOfFields,
-  rowsOfLayout,
-  badCbId,
-  rowsOfBytes,
-  readingRows,
-  verdictOn,
-}
+use Rattle.reading.specs.declared.Pdu.the-variants.{CreateRequest, CreateResponse, DataFirst, Data, Close}
+use Rattle.reading.specs.declared.Pdu.the-variants.{CapsRequest, CapsResponse, Refused}
+use Rattle.reading.specs.Layouts.{Field, any, Tail, no-more, any-bytes, a-name, Layout, pad, versionField}
+use Rattle.reading.specs.Layouts.{charges, layoutOf, rowsOfTail, rowsOfFields, rowsOfLayout, badCbId}
+use Rattle.reading.specs.Layouts.{rowsOfBytes, readingRows, verdictOn}
 
 -- what reading answers is what the rows say
 abbrev Reads : List Row → Pdu → Type 0

@@ -18,16 +18,8 @@ use Rattle.reading.specs.Reading.{readPdu}
 use Rattle.reading.specs.Said.{bytesAt}
 use Rattle.reading.specs.declared.Charges.{Charges}
 use Rattle.reading.specs.declared.Pdu.{Pdu}
-use Rattle.reading.specs.declared.Pdu.the-variants.{
-  CreateRequest,
-  CreateResponse,
-  DataFirst,
-  Data,
-  Close,
-  CapsRequest,
-  CapsResponse,
-  Refused,
-}
+use Rattle.reading.specs.declared.Pdu.the-variants.{CreateRequest, CreateResponse, DataFirst, Data, Close}
+use Rattle.reading.specs.declared.Pdu.the-variants.{CapsRequest, CapsResponse, Refused}
 
 -- "one of the kinds below with its own values"
 pub data Value : Type 0 where

@@ -14,16 +14,8 @@ use Rattle.lists.specs.Places.{place}
 use Rattle.numbers.specs.Numbers.{little, widthOf}
 use Rattle.paper.specs.Rows.{Verdict, fine, refusedWith, Row, row, firstHeld}
 use Rattle.reading.specs.declared.Pdu.{Pdu}
-use Rattle.reading.specs.declared.Pdu.the-variants.{
-  CreateRequest,
-  CreateResponse,
-  DataFirst,
-  Data,
-  Close,
-  CapsRequest,
-  CapsResponse,
-  Refused,
-}
+use Rattle.reading.specs.declared.Pdu.the-variants.{CreateRequest, CreateResponse, DataFirst, Data, Close}
+use Rattle.reading.specs.declared.Pdu.the-variants.{CapsRequest, CapsResponse, Refused}
 
 -- a field: its bytes, and which values are good
 pub record Field : Type 0 where

@@ -21,42 +21,15 @@ use Rattle.lists.proofs.Cases.{both, neither}
 use Rattle.lists.proofs.Laid.{front}
 use Rattle.numbers.specs.Numbers.{NUMBERS}
 use Rattle.reading.specs.declared.Charges.{Charges}
-use Rattle.reading.specs.Grammar.{
-  Value,
-  create-request,
-  create-response,
-  data-first,
-  data-block,
-  close,
-  capabilities-request,
-  capabilities-response,
-  values,
-  readAs,
-  SmallCharges,
-  noCharges,
-  Encodes,
-}
+use Rattle.reading.specs.Grammar.{Value, create-request, create-response, data-first, data-block, close}
+use Rattle.reading.specs.Grammar.{capabilities-request, capabilities-response, values, readAs, SmallCharges}
+use Rattle.reading.specs.Grammar.{noCharges, Encodes}
 use Rattle.reading.proofs.Grammar.{every-encoding, zero-free, same-charges}
-use Rattle.laying.specs.Laying.{
-  bufferAfter,
-  createRequestBytes,
-  createResponseBytes,
-  dataFirstBytes,
-  dataBytes,
-  closeBytes,
-  capsRequestBytes,
-  capsResponseBytes,
-}
-use Rattle.laying.proofs.Encoded.{
-  close-encoded,
-  data-encoded,
-  data-first-encoded,
-  create-response-encoded,
-  create-request-encoded,
-  caps-response-encoded,
-  caps-request-1-encoded,
-  caps-request-encoded,
-}
+use Rattle.laying.specs.Laying.{bufferAfter, createRequestBytes, createResponseBytes, dataFirstBytes, dataBytes}
+use Rattle.laying.specs.Laying.{closeBytes, capsRequestBytes, capsResponseBytes}
+use Rattle.laying.proofs.Encoded.{close-encoded, data-encoded, data-first-encoded, create-response-encoded}
+use Rattle.laying.proofs.Encoded.{create-request-encoded, caps-response-encoded, caps-request-1-encoded}
+use Rattle.laying.proofs.Encoded.{caps-request-encoded}
 use Rattle.reading.specs.Reading.{badVersion}
 use Rattle.reading.proofs.Placed.{good-version}
 use Rattle.writing.specs.Writing.{judged, written, outcome, badRequest, allZero, badCapabilities}
