@@ -4,15 +4,13 @@ use mathlib.Core.Path.{_≡_, refl, ap}
 use mathlib.Core.List.{List, [], _∷_, _++_}
 use mathlib.Core.Logic.{⊎-elim}
 use Prim.Native.Nat.{ℕ, zero, suc, _+_, _*_, _/_, _%_, _^_, _≤_, _<_, _-_}
-use native.Mathlib.Nat.{mod-add-div, pow-suc, div-lt-iff-lt-mul}
+use native.Mathlib.Nat.{mod-add-div, pow-suc, pow-le-pow-right, lt-of-lt-of-le, div-lt-iff-lt-mul}
 use native.Mathlib.Omega.{arith}
 use borrow.Author.Tests.{lt-ltb, le-ltb}
 use lib.Dec.{lit<, lit≤, ltb, eqb}
-use lib.ListN.{length, take, drop, getD, length-take}
-use lib.Seq.{take-all, take-at, drop-at, getD-drop}
-use Rattle.lists.specs.Bytes.{laid, zeros}
+use lib.ListN.{length, take, drop, getD, length-take, drop-of-length-le}
+use lib.Seq.{take-all, take-at, drop-at, take-nil, drop-nil, getD-drop}
 use Rattle.lists.proofs.Cases.{lt-or-le, choice}
-use Rattle.lists.proofs.Laid.{laid-past, laid-head}
 use Rattle.numbers.specs.Numbers.{Bytes, NUMBERS, little, bytesOf, valueOf, valueAt, widthOf, codeFor, narrowest, narrowBytes}
 
 -- ---- lengths and bounds
@@ -139,19 +137,38 @@ bytesOf-little (b ∷ bs) h =
     let d : (b + 256 * little bs) / 256 ≡ little bs = omega arith in
     rw (m, d, bytesOf-little bs (λ i. h (suc i)))
 
--- ---- the four-byte scratch
+-- ---- built from the top byte down
 
-little-zeros : (n : ℕ) → little (zeros n) ≡ 0
-unfolding zeros little
-little-zeros zero = refl
-little-zeros (suc n) = rw (little-zeros n)
+-- what the first four bytes make from a place on
+abbrev pub from : List ℕ → ℕ → ℕ
+from bs i = little (take (4 - i) (drop i bs))
 
--- the number that the scratch makes is that of the bytes
-pub scratch : (n : ℕ) (bs : List ℕ) → little (laid (zeros n) 0 bs) ≡ little (take n bs)
-unfolding zeros little laid
-scratch zero bs = rw (laid-past [] 0 bs (lit≤ tt))
-scratch (suc n) [] = rw (little-zeros n)
-scratch (suc n) (b ∷ bs) = rw (laid-head 0 (zeros n) b bs, scratch n bs)
+-- nothing, behind the last byte
+pub from-end : (bs : List ℕ) (i : ℕ) → length bs ≤ i → from bs i ≡ 0
+unfolding little
+from-end bs i h = rw (drop-of-length-le bs {i = i} h, take-nil)
+
+-- one byte more, put below those behind it,
+pub from-turn : (bs : List ℕ) (i : ℕ) → 1 ≤ i → i ≤ 4 → from bs (i - 1) ≡ from bs i * 256 + getD bs (i - 1) 0
+unfolding little
+from-turn bs zero h k = absurd (omega arith)
+from-turn bs (suc i) h k =
+    let down : suc i - 1 ≡ i = omega arith in
+    let more : 4 - i ≡ suc (4 - suc i) = omega arith in
+    rw (down, more) (turn (4 - suc i) i bs)
+  where
+    turn : (n i : ℕ) (bs : List ℕ)
+        → little (take (suc n) (drop i bs)) ≡ little (take n (drop (suc i) bs)) * 256 + getD bs i 0
+    turn zero i [] = rw drop-nil refl
+    turn (suc n) i [] = rw drop-nil refl
+    turn n zero (b ∷ bs) = omega arith
+    turn n (suc i) (b ∷ bs) = turn n i bs
+
+-- for which there is room
+pub from-below : (bs : List ℕ) (i : ℕ) → 1 ≤ i → Bytes bs → from bs i < 256 ^ 3
+from-below bs i h b =
+    let three : 4 - i ≤ 3 = omega arith in
+    lt-of-lt-of-le (little-below (4 - i) (drop i bs) (λ k. rw getD-drop (b (i + k)))) (pow-le-pow-right (lit< tt) three)
 
 -- the low bytes of more bytes
 pub low-bytes : (n m v : ℕ) → n ≤ m → take n (bytesOf m v) ≡ bytesOf n v

@@ -88,11 +88,20 @@ pub fn split(value: u32) -> [u8; 4]
     ]
 }
 
-// The number that the bytes make. Only the first four count.
+// The number that the bytes make. Only the first four count: from the top one down each is put below those taken before it.
+// There are four turns whatever the length, so the compiler lays them out one by one.
 pub fn number(bytes: &[u8]) -> u32
     ensures { λ r. ⌜ r ≡ valueOf (now (bytes .entry)) ⌝ }
 {
-    joined(four(bytes))
+    let mut value = 0;
+    let mut at = 4;
+    while 0 < at {
+        at -= 1;
+        if at < bytes.len() {
+            value = value * 256 + wide(bytes[at]);
+        }
+    }
+    value
 }
 
 // Writes the low bytes of the value, as many as the width says and at most four, from a place on.
