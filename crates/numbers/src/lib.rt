@@ -40,8 +40,7 @@ pub fn narrow(value: u32) -> usize
     width(code(value))
 }
 
-// A four-byte scratch that holds the bytes, with zeros behind fewer than four. Its turns are counted by the scratch and not
-// by the bytes, so the compiler lays them out one by one: a block copy of one byte would cost more than the rest.
+// A four-byte scratch that holds the bytes, with zeros behind fewer than four: what CreationStatus is built from.
 pub fn four(bytes: &[u8]) -> [u8; 4]
     ensures { λ r. ⌜ r ≡ laid (zeros 4) 0 (now (bytes .entry)) ⌝ }
 {
