@@ -4,7 +4,7 @@ use mathlib.Core.Path.{_≡_, refl, ap}
 use mathlib.Core.List.{List, [], _∷_, _++_}
 use mathlib.Core.Logic.{⊎-elim}
 use Prim.Native.Nat.{ℕ, zero, suc, _+_, _*_, _/_, _%_, _^_, _≤_, _<_, _-_}
-use native.Mathlib.Nat.{mod-add-div, pow-suc, pow-le-pow-right, lt-of-lt-of-le, div-lt-iff-lt-mul}
+use native.Mathlib.Nat.{mod-add-div, pow-suc, div-lt-iff-lt-mul}
 use native.Mathlib.Omega.{arith}
 use borrow.Author.Tests.{lt-ltb, le-ltb}
 use lib.Dec.{lit<, lit≤, ltb, eqb}
@@ -99,13 +99,14 @@ little-below (suc n) (x ∷ bs) h =
     let hx = h 0 in
     simp pow-suc (omega arith)
 
+-- at most four bytes count, and here there are no more
+within : (n : ℕ) (l : List ℕ) → n ≤ 4 → take 4 (take n l) ≡ take n l
+within n l h = take-all 4 (take n l) (simp length-take (omega arith))
+
 -- the value of n bytes, at most four, fits n bytes
 pub value-below : (l : List ℕ) (at n : ℕ) → n ≤ 4 → Bytes l → valueAt l at n < 256 ^ n
 unfolding valueAt valueOf
-value-below l at n h b =
-    let t : take 4 (take n (drop at l)) ≡ take n (drop at l) =
-    take-all 4 (take n (drop at l)) (simp length-take (omega arith)) in
-    rw t (little-below n (drop at l) (λ i. rw getD-drop (b (at + i))))
+value-below l at n h b = rw (within n (drop at l) h) (little-below n (drop at l) (λ i. rw getD-drop (b (at + i))))
 
 -- ---- reading what was written
 
@@ -139,36 +140,29 @@ bytesOf-little (b ∷ bs) h =
 
 -- ---- built from the top byte down
 
--- what the first four bytes make from a place on
-abbrev pub from : List ℕ → ℕ → ℕ
-from bs i = little (take (4 - i) (drop i bs))
+-- all four
+pub value-whole : (l : List ℕ) → valueAt l 0 4 ≡ valueOf l
+unfolding valueAt valueOf
+value-whole l = ap little (within 4 l (lit≤ tt))
 
--- nothing, behind the last byte
-pub from-end : (bs : List ℕ) (i : ℕ) → length bs ≤ i → from bs i ≡ 0
-unfolding little
-from-end bs i h = rw (drop-of-length-le bs {i = i} h, take-nil)
+-- none, behind the last byte
+pub value-past : (l : List ℕ) (at n : ℕ) → length l ≤ at → valueAt l at n ≡ 0
+unfolding valueAt valueOf little
+value-past l at n h = rw (drop-of-length-le l {i = at} h, take-nil)
 
--- one byte more, put below those behind it,
-pub from-turn : (bs : List ℕ) (i : ℕ) → 1 ≤ i → i ≤ 4 → from bs (i - 1) ≡ from bs i * 256 + getD bs (i - 1) 0
-unfolding little
-from-turn bs zero h k = absurd (omega arith)
-from-turn bs (suc i) h k =
-    let down : suc i - 1 ≡ i = omega arith in
-    let more : 4 - i ≡ suc (4 - suc i) = omega arith in
-    rw (down, more) (turn (4 - suc i) i bs)
+-- one more, below the n that stand behind it
+pub value-turn : (l : List ℕ) (at n : ℕ) → 1 ≤ at → n < 4 → valueAt l (at - 1) (suc n) ≡ valueAt l at n * 256 + getD l (at - 1) 0
+unfolding valueAt valueOf little
+value-turn l zero n h k = absurd (omega arith)
+value-turn l (suc at) n h k =
+    let down : suc at - 1 ≡ at = omega arith in
+    rw (down, within (suc n) (drop at l) k, within n (drop (suc at) l) (omega arith)) (turn at n l)
   where
-    turn : (n i : ℕ) (bs : List ℕ)
-        → little (take (suc n) (drop i bs)) ≡ little (take n (drop (suc i) bs)) * 256 + getD bs i 0
-    turn zero i [] = rw drop-nil refl
-    turn (suc n) i [] = rw drop-nil refl
-    turn n zero (b ∷ bs) = omega arith
-    turn n (suc i) (b ∷ bs) = turn n i bs
-
--- for which there is room
-pub from-below : (bs : List ℕ) (i : ℕ) → 1 ≤ i → Bytes bs → from bs i < 256 ^ 3
-from-below bs i h b =
-    let three : 4 - i ≤ 3 = omega arith in
-    lt-of-lt-of-le (little-below (4 - i) (drop i bs) (λ k. rw getD-drop (b (i + k)))) (pow-le-pow-right (lit< tt) three)
+    turn : (at n : ℕ) (l : List ℕ) → little (take (suc n) (drop at l)) ≡ little (take n (drop (suc at) l)) * 256 + getD l at 0
+    turn at zero [] = rw drop-nil refl
+    turn at (suc n) [] = rw drop-nil refl
+    turn zero n (b ∷ l) = omega arith
+    turn (suc at) n (b ∷ l) = turn at n l
 
 -- the low bytes of more bytes
 pub low-bytes : (n m v : ℕ) → n ≤ m → take n (bytesOf m v) ≡ bytesOf n v
