@@ -1,8 +1,8 @@
 /*
- * Immuskade for a host in C: the cutter.
+ * Immuskade for a host in C: the cutter, and strict reading.
  *
- * Link the archive that `rt staticlib cutting` makes, target/staticlib/libcutting.a. It needs no library but C's own, holds no
- * state and may be called from any thread.
+ * Link target/staticlib/libcutting.a for dvc_cut and target/staticlib/libreading.a for dvc_strict; `rt staticlib cutting` and
+ * `rt staticlib reading` make them. They need no library but C's own, hold no state and may be called from any thread.
  */
 #ifndef IMMUSKADE_H
 #define IMMUSKADE_H
@@ -24,6 +24,14 @@ extern "C" {
 #define DVC_WRONG_SIZE 1  /* out_len is below 1,600 */
 #define DVC_OVER_LIMIT 11 /* message_len is above 4,096 */
 #define DVC_NO_START 14   /* no block of the message starts at offset */
+
+/* The refusals of strict reading, by the paper's numbers. The first that holds from left to right is given, and 18 last. */
+#define DVC_ACCEPTED 0
+#define DVC_CUT_SHORT 2  /* empty, or ends inside a field or before the name's zero */
+#define DVC_TOO_LONG 3   /* pdu_len is above 1,600 */
+#define DVC_NO_COMMAND 4 /* Cmd is not 1 to 5 */
+#define DVC_BAD_FIELD 5  /* a width code, cbId, Pad or Version that may not be, or bytes behind the last field */
+#define DVC_LOOSE 18     /* a number or Length in a wider width than it needs, or ignored bits that are not 0 */
 
 /*
  * Writes the PDU of the block that starts at an offset of a message.
@@ -62,6 +70,17 @@ static inline size_t dvc_next_offset(uint32_t answer)
 {
     return answer % 65536;
 }
+
+/*
+ * Strict reading of one PDU, for a firewall: whether it is the one byte string of its meaning.
+ *
+ *   pdu, pdu_len  the PDU, any bytes of any length. The pointer may not be null, even where the length is 0
+ *   from_server   0 for a PDU from the client, anything else for one from the server
+ *
+ * The answer is 0 for a PDU that strict reading accepts, and else a refusal's number. A PDU that it accepts is read by the manager
+ * too, with the same values, and no other bytes that it accepts in that direction have these values.
+ */
+uint32_t dvc_strict(const uint8_t *pdu, size_t pdu_len, uint32_t from_server);
 
 #ifdef __cplusplus
 }

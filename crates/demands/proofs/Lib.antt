@@ -8,6 +8,7 @@ pub mod Twice
 pub mod Sanity
 pub mod Cut
 pub mod Managers
+pub mod Strict
 pub mod Third
 pub mod ByFlags
 pub mod Useless

@@ -4,6 +4,7 @@
 use Rattle.demands.specs.Demand1.{AnyOrderOfCalls, BadInputGetsItsNumber, ARefusalLeavesAll}
 use Rattle.demands.specs.Demand2.{PdusAreReadSo, PdusAreWrittenSo, StepsAreSo, WhatWeWriteWeReadBack, CutByUsIsHandedUpOnce}
 use Rattle.demands.specs.Demand3.{AConnectionJustMadeReady, TwoOrdersMeanThis, EitherOrderIsTheSame, NothingTwice}
+use Rattle.demands.specs.Strict.{OneMeaningOneByteString, StrictBesidePlain, WhatWeWriteIsStrict}
 use Rattle.demands.specs.Useless.{UselessManagersHaveThemNot, right}
 use Rattle.demands.specs.Starred.{Starred}
 use mathlib.Core.Bool.{true}
@@ -11,7 +12,9 @@ use Rattle.numbers.proofs.Widths as widths
 use Rattle.reading.proofs.Placed.{placed}
 use Rattle.reading.proofs.Grammar as grammar
 use Rattle.reading.proofs.Layouts as layouts
+use Rattle.reading.proofs.Strict as strict
 use Rattle.laying.proofs.Encoded as encoded
+use Rattle.writing.specs.ReadBack.{ReadsBack, StrictBack}
 use Rattle.writing.proofs.SameValues as same-values
 use Rattle.writing.proofs.Refusals as writing
 use Rattle.cutting.proofs.Refusals as cutting
@@ -28,6 +31,7 @@ use Rattle.demands.proofs.Sanity as sanity
 use Rattle.demands.proofs.Cut as cut
 use Rattle.demands.proofs.Ready as ready
 use Rattle.demands.proofs.Managers as managers
+use Rattle.demands.proofs.Strict as strictness
 use Rattle.demands.proofs.Third as third
 use Rattle.demands.proofs.ByFlags as right-one
 use Rattle.demands.proofs.Useless as useless
@@ -75,7 +79,7 @@ a-refusal-leaves-all =
 -- "PDUs are read and written, channels opened and closed, and messages cut and joined as [MS-RDPEDYC] version 17.0
 -- and the build paper define."
 pub pdus-are-read-so : PdusAreReadSo
-pdus-are-read-so = record { exactly = grammar.exactly; one-meaning = grammar.unambiguous; by-value = values.same-call }
+pdus-are-read-so = record { exactly = grammar.exactly; unambiguous = grammar.unambiguous; by-value = values.same-call }
 
 pub pdus-are-written-so : PdusAreWrittenSo
 pdus-are-written-so =
@@ -86,7 +90,7 @@ pdus-are-written-so =
       data-first = encoded.data-first-encoded;
       data-block = encoded.data-encoded;
       close = encoded.close-encoded;
-      capabilities-request = same-values.caps-request-good;
+      capabilities-request = same-values.caps-request-encodes;
       capabilities-response = encoded.caps-response-encoded;
     }
 
@@ -107,16 +111,7 @@ steps-are-so =
 
 -- "What we write we read back as the same values."
 pub what-we-write-we-read-back : WhatWeWriteWeReadBack
-what-we-write-we-read-back =
-    record {
-      create-request = same-values.create-request-reads;
-      create-response = same-values.create-response-reads;
-      data-first = same-values.data-first-reads;
-      data-block = same-values.data-reads;
-      close = same-values.close-reads;
-      capabilities-request = same-values.caps-request-reads;
-      capabilities-response = same-values.caps-response-reads;
-    }
+what-we-write-we-read-back = strictness.every-kind ReadsBack same-values.reads-back
 
 -- "A message of up to 4,096 bytes, cut by us and received on an open, idle channel, is handed up once, with the same
 -- bytes."
@@ -153,6 +148,28 @@ either-order-is-the-same =
       of-ours = third.ours-demand-3;
       strangers = orders.strangers;
     }
+
+-- ======== Beside them: strict reading
+
+-- "Two PDUs that strict reading accepts, in one direction, have equal values exactly when their bytes are equal."
+pub one-meaning-one-byte-string : OneMeaningOneByteString
+one-meaning-one-byte-string = strictness.one-byte-string
+
+-- "Demands 2 and 3 speak of plain reading, which stays. Refusals: 18, wide number or Length, or ignored bits set; it is
+-- the last in reading."
+pub strict-beside-plain : StrictBesidePlain
+strict-beside-plain =
+    record {
+      same-answer = strict.same-answer;
+      keeps-refusals = strict.keeps-refusals;
+      only-18 = strict.only-18;
+      18-exactly-when = strict.loose-exactly;
+    }
+
+-- whatever our seven writers and the cutter write, strict reading accepts, with the same values
+pub what-we-write-is-strict : WhatWeWriteIsStrict
+what-we-write-is-strict =
+    record { writers = strictness.every-kind StrictBack same-values.strict-back; cutter = strictness.cut-is-strict }
 
 -- ======== Behind them
 

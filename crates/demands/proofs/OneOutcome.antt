@@ -4,8 +4,8 @@
 -- Assumes nothing.
 pub use Rattle.paper.proofs.One.{refusal-number-one as paper-refusal-number-one}
 pub use Rattle.lists.proofs.One.{lesser-one as lists-lesser-one, copy-one as lists-copy-one, copy-at-one as lists-copy-at-one, to-front-one as lists-to-front-one, clear-one as lists-clear-one, first-zero-one as lists-first-zero-one}
-pub use Rattle.numbers.proofs.One.{width-one as numbers-width-one, code-one as numbers-code-one, narrow-one as numbers-narrow-one, four-one as numbers-four-one, joined-one as numbers-joined-one, split-one as numbers-split-one, number-one as numbers-number-one, put-one as numbers-put-one, signed-one as numbers-signed-one, unsigned-one as numbers-unsigned-one, status-one as numbers-status-one, status-bytes-one as numbers-status-bytes-one}
-pub use Rattle.reading.proofs.One.{read-one as reading-read-one}
+pub use Rattle.numbers.proofs.One.{width-one as numbers-width-one, code-one as numbers-code-one, narrow-one as numbers-narrow-one, four-one as numbers-four-one, joined-one as numbers-joined-one, split-one as numbers-split-one, number-one as numbers-number-one, measure-one as numbers-measure-one, put-one as numbers-put-one, signed-one as numbers-signed-one, unsigned-one as numbers-unsigned-one, status-one as numbers-status-one, status-bytes-one as numbers-status-bytes-one}
+pub use Rattle.reading.proofs.One.{read-one as reading-read-one, read-strict-one as reading-read-strict-one, verdict-one as reading-verdict-one, dvc-strict-one as reading-dvc-strict-one}
 pub use Rattle.laying.proofs.One.{create-request-one as laying-create-request-one, create-response-one as laying-create-response-one, data-first-one as laying-data-first-one, data-one as laying-data-one, close-one as laying-close-one, capabilities-request-one as laying-capabilities-request-one, capabilities-response-one as laying-capabilities-response-one}
 pub use Rattle.writing.proofs.One.{write-create-request-one as writing-write-create-request-one, write-create-response-one as writing-write-create-response-one, write-data-first-one as writing-write-data-first-one, write-data-one as writing-write-data-one, write-close-one as writing-write-close-one, write-capabilities-request-one as writing-write-capabilities-request-one, write-capabilities-response-one as writing-write-capabilities-response-one}
 pub use Rattle.cutting.proofs.One.{cut-one as cutting-cut-one, dvc-cut-one as cutting-dvc-cut-one}
@@ -16,6 +16,6 @@ pub use Rattle.store.proofs.One.{put-block-one as store-put-block-one, clear-pa
 pub use Rattle.deciding.proofs.One.{decide-one as deciding-decide-one}
 pub use Rattle.connection.proofs.One.{keep-one as connection-keep-one, place-after-one as connection-place-after-one}
 pub use Rattle.client.proofs.One.{start-one as client-start-one, heard-one as client-heard-one, closing-one as client-closing-one, step-one as client-step-one, receive-one as client-receive-one, local-close-one as client-local-close-one}
-pub use Rattle.lines.proofs.One.{field-one as lines-field-one, text-one as lines-text-one, header-one as lines-header-one, line-one as lines-line-one, cut-line-one as lines-cut-line-one, message-line-one as lines-message-line-one}
+pub use Rattle.lines.proofs.One.{field-one as lines-field-one, text-one as lines-text-one, header-one as lines-header-one, line-one as lines-line-one, cut-line-one as lines-cut-line-one, message-line-one as lines-message-line-one, reading-header-one as lines-reading-header-one, reading-line-one as lines-reading-line-one}
 pub use Rattle.records.proofs.One.{whole-one as records-whole-one, due-for-one as records-due-for-one}
 pub use Rattle.walking.proofs.One.{begin-one as walking-begin-one, turn-one as walking-turn-one}

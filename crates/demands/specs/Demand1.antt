@@ -9,7 +9,8 @@ use Rattle.paper.specs.Sizes.{PARTS, STORE}
 use Rattle.paper.specs.Rows.{firstHeld, comesTo}
 use Rattle.paper.specs.declared.Refusal.{Refusal}
 use Rattle.reading.specs.Reading.{readPdu}
-use Rattle.reading.specs.Layouts.{verdictOn, readingRows}
+use Rattle.reading.specs.Said.{verdictOn}
+use Rattle.reading.specs.Layouts.{readingRows}
 use Rattle.laying.specs.Laying.{bufferAfter}
 use Rattle.writing.specs.Writing as writing
 use Rattle.writing.specs.declared.Written.the-variants.{Refused as NotWritten}

@@ -38,7 +38,7 @@ pub record PdusAreReadSo : Type 0 where
   -- reading answers values exactly if the bytes are an encoding of them, of at most 1,600 bytes
   pub exactly : (fromServer : Bool) (v : Value) (bytes : List ℕ) → Bytes bytes → Exactly fromServer v bytes
   -- no bytes say two things
-  pub one-meaning :
+  pub unambiguous :
       (fromServer : Bool) (v w : Value) (bytes : List ℕ) → Encodes fromServer v bytes → Encodes fromServer w bytes
       → length bytes ≤ PDU-MAX → v ≡ w
   -- "A channel number is its value: 5 in one byte and 5 in four bytes name one channel"; Sp is ignored: two PDUs of
@@ -110,27 +110,31 @@ pub record StepsAreSo : Type 0 where
   pub start :
       (store : List ℕ) → length store ≡ STORE → (started store .table ≡ emptyTable) × (storeStarted store ≡ zeros STORE)
 
--- "What we write we read back as the same values": for each kind, the bytes that its writer puts into any buffer
-pub record WhatWeWriteWeReadBack : Type 0 where
+-- for each kind, the bytes that its writer puts into any buffer are read back
+pub record WrittenIsRead (Back : Bool → Bool → List ℕ → Value → Type 0) : Type 0 where
   pub create-request :
       (n class : ℕ) (name : List ℕ) → n < NUMBERS
-      → ReadsBack true (badRequest class name) (createRequestBytes n class name) (create-request n class name)
+      → Back true (badRequest class name) (createRequestBytes n class name) (create-request n class name)
   pub create-response :
       (n : ℕ) (status : ℤ) → n < NUMBERS → SFits w32 status
-      → ReadsBack false false (createResponseBytes n status) (create-response n status)
+      → Back false false (createResponseBytes n status) (create-response n status)
   pub data-first :
       (fromServer : Bool) (n len : ℕ) (block : List ℕ) → n < NUMBERS → len < NUMBERS
-      → ReadsBack fromServer false (dataFirstBytes n len block) (data-first n len block)
+      → Back fromServer false (dataFirstBytes n len block) (data-first n len block)
   pub data-block :
       (fromServer : Bool) (n : ℕ) (block : List ℕ) → n < NUMBERS
-      → ReadsBack fromServer false (dataBytes n block) (data-block n block)
-  pub close : (fromServer : Bool) (n : ℕ) → n < NUMBERS → ReadsBack fromServer false (closeBytes n) (close n)
+      → Back fromServer false (dataBytes n block) (data-block n block)
+  pub close : (fromServer : Bool) (n : ℕ) → n < NUMBERS → Back fromServer false (closeBytes n) (close n)
   pub capabilities-request :
       (version : ℕ) (charges : Charges) → SmallCharges charges
-      → ReadsBack true (badCapabilities version charges) (capsRequestBytes version charges)
+      → Back true (badCapabilities version charges) (capsRequestBytes version charges)
       (capabilities-request version charges)
   pub capabilities-response :
-      (version : ℕ) → ReadsBack false (badVersion version) (capsResponseBytes version) (capabilities-response version)
+      (version : ℕ) → Back false (badVersion version) (capsResponseBytes version) (capabilities-response version)
+
+-- "What we write we read back as the same values"
+abbrev pub WhatWeWriteWeReadBack : Type 0
+WhatWeWriteWeReadBack = WrittenIsRead ReadsBack
 
 -- "A message of up to 4,096 bytes, cut by us and received on an open, idle channel, is handed up once, with the
 -- same bytes." Other channels' events may stand between, may be refused and may meet a full table; lists and reply

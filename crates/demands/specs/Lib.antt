@@ -11,3 +11,4 @@ pub mod Starred
 pub mod Demand1
 pub mod Demand2
 pub mod Demand3
+pub mod Strict

@@ -10,6 +10,8 @@ use Rattle.lines.proofs.header.Reads as header
 use Rattle.lines.proofs.line.Reads as line
 use Rattle.lines.proofs.cut_line.Reads as cut-line
 use Rattle.lines.proofs.message_line.Reads as message-line
+use Rattle.lines.proofs.reading_header.Reads as reading-header
+use Rattle.lines.proofs.reading_line.Reads as reading-line
 
 pub field-one : (κs : _) (a : _) (r r′ : _) (s s′ : _) → field.Post κs a r s → field.Post κs a r′ s′
     → (r ≡ r′) × (now (s .0) ≡ now (s′ .0))
@@ -34,3 +36,11 @@ cut-line-one κs a r r′ s s′ p q = (same (p .0 .0) (q .0 .0), same (p .1) (q
 pub message-line-one : (κs : _) (a : _) (r r′ : _) (s s′ : _) → message-line.Post κs a r s → message-line.Post κs a r′ s′
     → (r ≡ r′) × (now (s .0) ≡ now (s′ .0))
 message-line-one κs a r r′ s s′ p q = (same (p .0 .0) (q .0 .0), same (p .1) (q .1))
+
+pub reading-header-one : (κs : _) (a : _) (r r′ : _) (s s′ : _) → reading-header.Post κs a r s → reading-header.Post κs a r′ s′
+    → (r ≡ r′) × (now (s .0) ≡ now (s′ .0))
+reading-header-one κs a r r′ s s′ p q = (same (p .0 .0) (q .0 .0), same (p .1) (q .1))
+
+pub reading-line-one : (κs : _) (a : _) (r r′ : _) (s s′ : _) → reading-line.Post κs a r s → reading-line.Post κs a r′ s′
+    → (r ≡ r′) × (now (s .0) ≡ now (s′ .0))
+reading-line-one κs a r r′ s s′ p q = (same (p .0 .0) (q .0 .0), same (p .1) (q .1))

@@ -1,7 +1,9 @@
--- The lines that the walker prints. "Fields: place from 0; answer [..]; channel, `-` for ready and refusals 1 to 7;
+-- The lines that the programs print. The walker's: "Fields: place from 0; answer [..]; channel, `-` for ready and refusals 1 to 7;
 -- number [..]; reply length." The text is ASCII: single spaces, decimal numbers, one LF (10) at the end.
 use Prim.Native.Nat.{ℕ, _+_, _*_}
+use mathlib.Core.Bool.{cond}
 use mathlib.Core.List.{List, [], _∷_, _++_}
+use lib.Dec.{eqb}
 use lib.ListN.{take}
 use Rattle.paper.specs.Sizes.{MESSAGE-MAX}
 use Rattle.channel.specs.declared.Concern.{Concern}
@@ -56,6 +58,18 @@ lineOf place answer sent =
 -- "A last record cut short prints its place and `cut`, and ends the run."
 unfoldable pub cutLineOf : ℕ → List ℕ
 cutLineOf place = field place SPACE ++ (99 ∷ 117 ∷ 116 ∷ 10 ∷ [])
+
+-- "pdu reading"
+unfoldable pub readingHeader : List ℕ
+readingHeader = 112 ∷ 100 ∷ 117 ∷ 32 ∷ 114 ∷ 101 ∷ 97 ∷ 100 ∷ 105 ∷ 110 ∷ 103 ∷ 10 ∷ []
+
+-- what reading said of a PDU: `ok`, or `refused` and the refusal's number, for which 0 stands where there is none
+unfoldable pub verdictField : ℕ → List ℕ
+verdictField n = cond (eqb n 0) (111 ∷ 107 ∷ 10 ∷ []) (wordField refused ++ field n LF)
+
+-- the line of a PDU that was read: its place, and what reading said of it
+unfoldable pub readingLineOf : ℕ → ℕ → List ℕ
+readingLineOf place n = field place SPACE ++ verdictField n
 
 -- the line of a message handed up: the place of the record that brought it, its channel, and its bytes, of which a
 -- message has at most 4,096

@@ -1,14 +1,15 @@
 // The text of the programs' lines.
 //
 // `header` lays the walker's first line, `line` the line of one PDU from its place, its answer and its reply's length,
-// `cut_line` the line of a last record that is cut short; `message_line` lays the line of a message handed up. Each lays its
-// bytes at the front of a buffer and answers how many there are; `field` and `text`, of which lines are made, lay theirs
-// from a place on. Bytes of the buffer behind them stay. A buffer that is too short gets as much as it has room for.
+// `cut_line` the line of a last record that is cut short; `message_line` lays the line of a message handed up;
+// `reading_header` and `reading_line` lay the lines of PDUs that are only read. Each lays its bytes at the front of a
+// buffer and answers how many there are; `field` and `text`, of which lines are made, lay theirs from a place on. Bytes
+// of the buffer behind them stay. A buffer that is too short gets as much as it has room for.
 use channel::Answer;
 use channel::Concern;
 use paper::MESSAGE_MAX;
 ghost use mathlib.Core.Path.{_≡_};
-ghost use Prim.Native.Nat.{_*_, _≤_, _<_};
+ghost use Prim.Native.Nat.{_+_, _*_, _≤_, _<_};
 ghost use lib.ListN.{length, drop};
 ghost use Rattle.paper.specs.Sizes.{MESSAGE-MAX};
 ghost use Rattle.lists.specs.Bytes.{laid};
@@ -16,7 +17,7 @@ ghost use Rattle.channel.specs.Answers.{concernOf, numberOf, wordOf};
 ghost use Rattle.lines.specs.Decimal.{FIELD-MAX, field};
 ghost use Rattle.lines.specs.Hex.{hexDigit, hexByte, hexOf, bytesField};
 ghost use Rattle.lines.specs.Lines.{WORD-MAX, LINE-MAX, headerLine, wordField, channelField, lineOf, cutLineOf};
-ghost use Rattle.lines.specs.Lines.{messageLineOf, MESSAGE-LINE-MAX};
+ghost use Rattle.lines.specs.Lines.{messageLineOf, MESSAGE-LINE-MAX, readingHeader, verdictField, readingLineOf};
 
 // A number's field has at most twenty digits and the byte that ends it.
 const FIELD_MAX: usize = 21;
@@ -186,4 +187,34 @@ pub fn message_line(out: &mut [u8], place: u64, number: u32, bytes: &[u8]) -> us
     let numbered = placed + field(out, placed, number as u64, b' ');
     let told = numbered + message_bytes(out, numbered, &bytes[..n]);
     told + text(out, told, b"\n")
+}
+
+// The first line of a run that only reads.
+pub fn reading_header(out: &mut [u8]) -> usize
+    ensures { λ r. ⌜ (r ≡ length readingHeader) × (r ≤ LINE-MAX) ⌝ }
+    ensures { λ _. ⌜ now (out .exit) ≡ laid (now (out .entry)) 0 readingHeader ⌝ }
+{
+    text(out, 0, b"pdu reading\n")
+}
+
+// What reading said, from a place on: `ok` where the refusal's number is 0, and else `refused` and that number.
+fn verdict(out: &mut [u8], at: usize, refusal: u8) -> usize
+    requires { ⌜ at ≤ FIELD-MAX ⌝ }
+    ensures { λ r. ⌜ (r ≡ length (verdictField refusal)) × (r ≤ WORD-MAX + FIELD-MAX) ⌝ }
+    ensures { λ _. ⌜ now (out .exit) ≡ laid (now (out .entry)) at (verdictField refusal) ⌝ }
+{
+    if refusal == 0 {
+        return text(out, at, b"ok\n");
+    }
+    let worded = text(out, at, b"refused ");
+    worded + field(out, at + worded, refusal as u64, b'\n')
+}
+
+// The line of a PDU that was read: its place, and what reading said of it.
+pub fn reading_line(out: &mut [u8], place: u64, refusal: u8) -> usize
+    ensures { λ r. ⌜ (r ≡ length (readingLineOf place refusal)) × (r ≤ LINE-MAX) ⌝ }
+    ensures { λ _. ⌜ now (out .exit) ≡ laid (now (out .entry)) 0 (readingLineOf place refusal) ⌝ }
+{
+    let placed = field(out, 0, place, b' ');
+    placed + verdict(out, placed, refusal)
 }

@@ -1,6 +1,6 @@
 -- The match of two names is true exactly where they are equal.
 -- Assumes nothing.
-use mathlib.Core.Path.{_≡_, refl}
+use mathlib.Core.Path.{_≡_, refl, sym}
 use mathlib.Core.Bool.{Bool, true, false}
 use mathlib.Core.List.{List, [], _∷_, _++_}
 use Prim.Native.Nat.{ℕ}
@@ -24,6 +24,15 @@ same-equal (x ∷ a) [] e = cc
 same-equal (x ∷ a) (y ∷ b) e =
     let h = both (eqb x y) (sameBytes a b) e in
     rw (eqb-true x y (h .0), same-equal a b (h .1))
+
+-- bytes compared are bytes that are the same or not
+pub compared : (a b : List ℕ) (r : Bool) → (r ≡ true → a ≡ b) → (a ≡ b → r ≡ true) → r ≡ sameBytes a b
+compared a b r f g = agree r (sameBytes a b) (λ e. rw (f e) (same-self b)) (λ e. g (same-equal a b e))
+  where
+    agree : (s t : Bool) → (s ≡ true → t ≡ true) → (t ≡ true → s ≡ true) → s ≡ t
+    agree true t p q = sym (p refl)
+    agree false true p q = q refl
+    agree false false p q = refl
 
 -- names that differ do not match
 pub unlike : (a b : List ℕ) → (a ≡ b → ⊥) → sameBytes a b ≡ false

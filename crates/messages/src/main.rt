@@ -3,10 +3,11 @@
 // The input is the walker's, and so is the one listener, PUMP. A line has the place of the record that brought the
 // message's last bytes, the channel, and the bytes in hexadecimal digits, or `-` for none.
 use walking::Job;
+use walking::Told;
 
 fn main() {
     stream::program(
-        Job::Messages,
+        Job::Client(Told::Messages),
         b"PUMP\0",
         b"messages: takes no arguments, and reads PDUs from standard input\n",
     );

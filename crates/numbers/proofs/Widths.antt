@@ -11,7 +11,7 @@ use lib.Dec.{lit<, lit≤, ltb, eqb}
 use lib.ListN.{length, take, drop, getD, length-take, drop-of-length-le}
 use lib.Seq.{take-all, take-at, drop-at, take-nil, drop-nil, getD-drop}
 use Rattle.lists.proofs.Cases.{lt-or-le, choice}
-use Rattle.numbers.specs.Numbers.{Bytes, NUMBERS, little, bytesOf, valueOf, valueAt, widthOf, codeFor, narrowest, narrowBytes}
+use Rattle.numbers.specs.Numbers.{Bytes, NUMBERS, little, bytesOf, valueOf, valueAt, widthOf, codeFor, narrowest, narrowBytes, wide, wideAt}
 
 -- ---- lengths and bounds
 
@@ -90,6 +90,25 @@ is-narrowest v code c h =
     four (suc (suc zero)) c h a = (lit≤ tt, lit≤ tt)
     four (suc (suc (suc k))) c h a = absurd (omega arith)
 
+width-grows : (c d : ℕ) → c < d → d ≤ 2 → widthOf c < widthOf d
+unfolding widthOf
+width-grows c zero h k = absurd (omega arith)
+width-grows zero (suc zero) h k = lit< tt
+width-grows (suc c) (suc zero) h k = absurd (omega arith)
+width-grows zero (suc (suc zero)) h k = lit< tt
+width-grows (suc zero) (suc (suc zero)) h k = lit< tt
+width-grows (suc (suc c)) (suc (suc zero)) h k = absurd (omega arith)
+width-grows c (suc (suc (suc d))) h k = absurd (omega arith)
+
+-- a width that holds a value and isn't wider than the narrowest is that
+pub not-wide : (v code : ℕ) → code ≤ 2 → v < 256 ^ widthOf code → widthOf code ≤ narrowest v → code ≡ codeFor v
+unfolding narrowest
+not-wide v code c h w =
+    ⊎-elim
+    (λ (k : codeFor v < code). absurd (omega (arith, width-grows (codeFor v) code k c)))
+    (λ (k : code ≤ codeFor v). omega (arith, is-narrowest v code c h .0))
+    (lt-or-le (codeFor v) code)
+
 pub little-below : (n : ℕ) (bs : List ℕ) → Bytes bs → little (take n bs) < 256 ^ n
 unfolding little
 little-below zero bs h = lit< tt
@@ -127,6 +146,14 @@ value-in p q n v at e k h =
     let b = bytesOf n v in
     let t : take 4 b ≡ b = take-all 4 b (rw length-bytesOf k) in
     rw (drop-at p (b ++ q) at e, take-at b q n (length-bytesOf n v), t) (little-bytesOf n v h)
+
+-- and wide where a narrower width holds it
+pub wide-in : (p q : List ℕ) (n v at : ℕ) → length p ≡ at → n ≤ 4 → v < 256 ^ n
+    → wideAt (p ++ (bytesOf n v ++ q)) at n ≡ ltb (narrowest v) n
+unfolding wideAt wide valueAt
+wide-in p q n v at e k h =
+    let value : valueOf (take n (drop at (p ++ (bytesOf n v ++ q)))) ≡ v = value-in p q n v at e k h in
+    rw (value, drop-at p (bytesOf n v ++ q) at e, take-at (bytesOf n v) q n (length-bytesOf n v), length-bytesOf)
 
 -- what is read is written back: bytes, as many as the width
 pub bytesOf-little : (bs : List ℕ) → Bytes bs → bytesOf (length bs) (little bs) ≡ bs

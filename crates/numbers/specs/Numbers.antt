@@ -1,9 +1,10 @@
 -- Numbers in bytes. "Numbers are little-endian. A width code 0, 1, 2 means 1, 2, 4 bytes; 3 is invalid."
 use Prim.Native.Nat.{ℕ, zero, suc, _+_, _*_, _/_, _%_, _<_}
-use mathlib.Core.Bool.{cond}
+use mathlib.Core.Bool.{Bool, cond}
 use mathlib.Core.List.{List, [], _∷_}
 use lib.Dec.{ltb, eqb}
-use lib.ListN.{take, drop, getD}
+use lib.ListN.{length, take, drop, getD}
+use Rattle.numbers.specs.declared.Measured.{Measured}
 
 -- each number of a list is a byte
 abbrev pub Bytes : List ℕ → Type 0
@@ -46,3 +47,18 @@ narrowest v = widthOf (codeFor v)
 -- and the value in it
 unfoldable pub narrowBytes : ℕ → List ℕ
 narrowBytes v = bytesOf (narrowest v) v
+
+-- whether a narrower width than that of a number's bytes would do,
+unfoldable pub wide : List ℕ → Bool
+wide bytes = ltb (narrowest (valueOf bytes)) (length bytes)
+
+-- or than n, for the bytes from a place on
+unfoldable pub wideAt : List ℕ → ℕ → ℕ → Bool
+wideAt list at n = wide (take n (drop at list))
+
+-- what reading a number finds
+abbrev pub measuredOf : List ℕ → Measured
+measuredOf bytes = record { value = valueOf bytes; wide = wide bytes }
+
+abbrev pub measuredAt : List ℕ → ℕ → ℕ → Measured
+measuredAt list at n = record { value = valueAt list at n; wide = wideAt list at n }

@@ -5,8 +5,14 @@ ghost use mathlib.Core.Path.{_≡_};
 ghost use Prim.Native.Nat.{_<_};
 ghost use lib.ListN.{take};
 ghost use Rattle.lists.specs.Bytes.{laid, zeros};
-ghost use Rattle.numbers.specs.Numbers.{little, bytesOf, valueOf, widthOf, codeFor, narrowest};
+ghost use Rattle.numbers.specs.Numbers.{little, bytesOf, valueOf, widthOf, codeFor, narrowest, measuredOf};
 ghost use Rattle.numbers.specs.Status.{signedOf, unsignedOf, statusOf, statusBytes};
+
+// A number that was read, and whether a narrower width would do.
+pub struct Measured {
+    pub value: u32,
+    pub wide: bool,
+}
 
 // The bytes of a width code: 1, 2 or 4. The invalid code has none.
 pub fn width(code: u8) -> usize
@@ -101,6 +107,17 @@ pub fn number(bytes: &[u8]) -> u32
         }
     }
     value
+}
+
+// The number that the bytes make, and whether fewer bytes would do.
+pub fn measure(bytes: &[u8]) -> Measured
+    ensures { λ r. ⌜ r ≡ measuredOf (now (bytes .entry)) ⌝ }
+{
+    let value = number(bytes);
+    Measured {
+        value,
+        wide: narrow(value) < bytes.len(),
+    }
 }
 
 // Writes the low bytes of the value, as many as the width says and at most four, from a place on.

@@ -1,7 +1,7 @@
 -- The table of refusals, read from top to bottom: a row for each refusal with whether what it is given for holds,
 -- and "the first that holds". What an entry's rows are stands beside the entry.
 use Prim.Native.Nat.{ℕ}
-use mathlib.Core.Bool.{Bool, cond}
+use mathlib.Core.Bool.{Bool, true, false, cond}
 use mathlib.Core.List.{List, [], _∷_}
 use Rattle.paper.specs.declared.Refusal.{Refusal}
 use Rattle.paper.specs.Refusals.{refusalNumber}
@@ -10,6 +10,15 @@ use Rattle.paper.specs.Refusals.{refusalNumber}
 pub data Verdict : Type 0 where
   fine : Verdict
   refusedWith : Refusal → Verdict
+
+abbrev pub isFine : Verdict → Bool
+isFine fine = true
+isFine (refusedWith why) = false
+
+-- as one number: the refusal's, or 0 for none
+abbrev pub verdictNumber : Verdict → ℕ
+verdictNumber fine = 0
+verdictNumber (refusedWith why) = refusalNumber why
 
 -- a row of the table: the refusal, and whether what it is given for holds
 pub record Row : Type 0 where

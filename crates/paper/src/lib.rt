@@ -77,6 +77,8 @@ pub enum Refusal {
     IsSpoiled,
     // 14: cutting: the offset is not a start of a block.
     NoStart,
+    // 18: strict reading: wide number or Length, or ignored bits set.
+    Loose,
 }
 
 // The refusal's number in the paper's table.
@@ -98,5 +100,6 @@ pub fn refusal_number(refusal: Refusal) -> u8
         Refusal::PastLength => 12,
         Refusal::IsSpoiled => 13,
         Refusal::NoStart => 14,
+        Refusal::Loose => 18,
     }
 }

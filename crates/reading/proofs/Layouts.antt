@@ -28,7 +28,8 @@ use Rattle.reading.specs.declared.Pdu.the-variants.{CreateRequest, Creat
 use Rattle.reading.specs.declared.Pdu.the-variants.{CapsRequest, CapsResponse, Refused}
 use Rattle.reading.specs.Layouts.{Field, any, Tail, no-more, any-bytes, a-name, Layout, pad, versionField}
 use Rattle.reading.specs.Layouts.{charges, layoutOf, rowsOfTail, rowsOfFields, rowsOfLayout, badCbId}
-use Rattle.reading.specs.Layouts.{rowsOfBytes, readingRows, verdictOn}
+use Rattle.reading.specs.Layouts.{rowsOfBytes, readingRows}
+use Rattle.reading.specs.Said.{verdictOn}
 
 -- what reading answers is what the rows say
 abbrev Reads : List Row → Pdu → Type 0

@@ -1,5 +1,8 @@
+pub mod Judged
 pub mod Placed
 pub mod Heads
 pub mod Grammar
+pub mod Tight
+pub mod Strict
 pub mod Layouts
 pub mod One

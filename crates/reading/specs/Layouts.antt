@@ -2,7 +2,7 @@
 -- direction and a first byte (and, for a Capabilities request, its Version) the fields and the tail, and one rule
 -- over them.
 use Prim.Native.Nat.{ℕ, _+_, _/_, _%_}
-use mathlib.Core.Bool.{Bool, true, false, cond, not, _&&_, _||_}
+use mathlib.Core.Bool.{Bool, true, cond, not, _&&_, _||_}
 use mathlib.Core.List.{List, [], _∷_}
 use lib.Dec.{ltb, eqb}
 use lib.ListN.{length, take, drop, getD}
@@ -12,10 +12,7 @@ use Rattle.paper.specs.declared.Refusal.the-variants.{CutShort, TooLong, NoComm
 use Rattle.lists.specs.Bytes.{isZero}
 use Rattle.lists.specs.Places.{place}
 use Rattle.numbers.specs.Numbers.{little, widthOf}
-use Rattle.paper.specs.Rows.{Verdict, fine, refusedWith, Row, row, firstHeld}
-use Rattle.reading.specs.declared.Pdu.{Pdu}
-use Rattle.reading.specs.declared.Pdu.the-variants.{CreateRequest, CreateResponse, DataFirst, Data, Close}
-use Rattle.reading.specs.declared.Pdu.the-variants.{CapsRequest, CapsResponse, Refused}
+use Rattle.paper.specs.Rows.{Row, row}
 
 -- a field: its bytes, and which values are good
 pub record Field : Type 0 where
@@ -95,14 +92,3 @@ rowsOfBytes fromServer pdu cmd middle cbId =
 
 unfoldable pub readingRows : Bool → List ℕ → List Row
 readingRows fromServer pdu = rowsOfBytes fromServer pdu (getD pdu 0 0 / 16) (getD pdu 0 0 / 4 % 4) (getD pdu 0 0 % 4)
-
--- what reading's answer says of it
-abbrev pub verdictOn : Pdu → Verdict
-verdictOn (CreateRequest number class name) = fine
-verdictOn (CreateResponse number status) = fine
-verdictOn (DataFirst number len block) = fine
-verdictOn (Data number block) = fine
-verdictOn (Close number) = fine
-verdictOn (CapsRequest version charges) = fine
-verdictOn (CapsResponse version) = fine
-verdictOn (Refused why) = refusedWith why

@@ -5,6 +5,7 @@ use lib.IntN.{ℤ, pos}
 use lib.ListN.{take, drop}
 use Rattle.paper.specs.Commands.{CREATE, DATA-FIRST, DATA, CLOSE, CAPABILITIES}
 use Rattle.paper.specs.Refusals.{refusalNumber}
+use Rattle.paper.specs.Rows.{Verdict, fine, refusedWith}
 use Rattle.reading.specs.declared.Extent.{Extent}
 use Rattle.reading.specs.declared.Pdu.{Pdu}
 use Rattle.reading.specs.declared.Pdu.the-variants.{CreateRequest, CreateResponse, DataFirst, Data, Close}
@@ -31,3 +32,14 @@ said pdu (CapsRequest version charges) =
     (pos version ∷ pos (charges .class0) ∷ pos (charges .class1) ∷ pos (charges .class2) ∷ pos (charges .class3) ∷ []) []
 said pdu (CapsResponse version) = row CAPABILITIES (pos version ∷ []) []
 said pdu (Refused why) = refusal (refusalNumber why)
+
+-- whether the answer is a refusal, and which
+abbrev pub verdictOn : Pdu → Verdict
+verdictOn (CreateRequest number class name) = fine
+verdictOn (CreateResponse number status) = fine
+verdictOn (DataFirst number len block) = fine
+verdictOn (Data number block) = fine
+verdictOn (Close number) = fine
+verdictOn (CapsRequest version charges) = fine
+verdictOn (CapsResponse version) = fine
+verdictOn (Refused why) = refusedWith why

@@ -1,8 +1,10 @@
 // Reading a PDU: bytes in, one of the seven kinds with its values out, or a refusal.
 //
-// `read` is the entry. It takes any bytes and refuses what it can't read, in the paper's order: the first rule that
-// holds gives the refusal. The other functions are its stages, in that order, and each has a definition of its own
-// name in specs/Reading.
+// `read` is plain reading. It takes any bytes and refuses what it can't read, in the paper's order: the first rule that
+// holds gives the refusal. `read_strict` refuses more, last: a number or Length that a narrower width would hold, and
+// ignored bits that are set. Both stand on the same stages, `find` and those before it, in that order, each with a
+// definition of its own name in specs/Reading; what strict reading adds to them is in specs/Strict.
+use numbers::Measured;
 use paper::CAPABILITIES;
 use paper::CREATE;
 use paper::DATA;
@@ -10,12 +12,17 @@ use paper::DATA_FIRST;
 use paper::PDU_MAX;
 use paper::Refusal;
 ghost use mathlib.Core.Path.{_≡_};
+ghost use mathlib.Core.Bool.{false, _||_};
 ghost use Prim.Native.Nat.{_+_, _≤_};
 ghost use lib.ListN.{length};
-ghost use Rattle.numbers.specs.Numbers.{valueAt};
+ghost use Rattle.paper.specs.Rows.{verdictNumber};
+ghost use Rattle.numbers.specs.Numbers.{valueAt, wideAt, measuredAt};
 ghost use Rattle.reading.specs.Reading.{readPdu, byCommand, numbered, badLengthWidth, afterNumber};
 ghost use Rattle.reading.specs.Reading.{createRequest, createResponse, dataFirst, closing};
 ghost use Rattle.reading.specs.Reading.{capabilities, byVersion, charged};
+ghost use Rattle.reading.specs.declared.Pdu.the-variants.{Refused};
+ghost use Rattle.reading.specs.Said.{verdictOn};
+ghost use Rattle.reading.specs.Strict.{readStrict, strictVerdict, looseBy, looseNumbered, looseAfter, loose, strictly, judged};
 
 // Where in the PDU a name or data stands. It may be empty.
 pub struct Extent {
@@ -68,12 +75,18 @@ pub enum Pdu {
     Refused(Refusal),
 }
 
-// The number of the n bytes from a place on.
-fn number_at(pdu: &[u8], at: usize, n: usize) -> u32
+// What both readings share: plain reading's answer, and whether strict reading refuses what that accepts.
+struct Found {
+    answer: Pdu,
+    loose: bool,
+}
+
+// The number of the n bytes from a place on, and whether a narrower width would do.
+fn number_at(pdu: &[u8], at: usize, n: usize) -> Measured
     requires { ⌜ (at + n ≤ length (now pdu)) × (n ≤ 4) ⌝ }
-    ensures { λ r. ⌜ r ≡ valueAt (now (pdu .entry)) at n ⌝ }
+    ensures { λ r. ⌜ r ≡ measuredAt (now (pdu .entry)) at n ⌝ }
 {
-    numbers::number(&pdu[at..at + n])
+    numbers::measure(&pdu[at..at + n])
 }
 
 // The number of the two bytes from a place on.
@@ -81,7 +94,16 @@ fn short_at(pdu: &[u8], at: usize) -> u16
     requires { ⌜ at + 2 ≤ length (now pdu) ⌝ }
     ensures { λ r. ⌜ r ≡ valueAt (now (pdu .entry)) at 2 ⌝ }
 {
-    number_at(pdu, at, 2) as u16
+    numbers::number(&pdu[at..at + 2]) as u16
+}
+
+fn refused(why: Refusal) -> Found
+    ensures { λ r. ⌜ (r .answer ≡ Refused why) × (r .loose ≡ false) ⌝ }
+{
+    Found {
+        answer: Pdu::Refused(why),
+        loose: false,
+    }
 }
 
 // The name goes up to its zero byte, the last of the PDU.
@@ -118,12 +140,14 @@ fn create_response(pdu: &[u8], number: u32, at: usize) -> Pdu
     Pdu::CreateResponse { number, status }
 }
 
-fn data_first(pdu: &[u8], number: u32, width: usize, at: usize) -> Pdu
+fn data_first(pdu: &[u8], number: Measured, width: usize, at: usize) -> Found
     requires { ⌜ (at ≤ 5) × (width ≤ 4) ⌝ }
-    ensures { λ r. ⌜ r ≡ dataFirst (now (pdu .entry)) number width at ⌝ }
+    ensures { λ r. ⌜ r .answer ≡ dataFirst (now (pdu .entry)) (number .value) width at ⌝ }
+    ensures { λ r. ⌜ judged r ≡ strictly (number .wide || wideAt (now (pdu .entry)) at width)
+        (dataFirst (now (pdu .entry)) (number .value) width at) ⌝ }
 {
     if pdu.len() < at + width {
-        return Pdu::Refused(Refusal::CutShort);
+        return refused(Refusal::CutShort);
     }
     let length = number_at(pdu, at, width);
     let start = at + width;
@@ -131,10 +155,13 @@ fn data_first(pdu: &[u8], number: u32, width: usize, at: usize) -> Pdu
         at: start,
         len: pdu.len() - start,
     };
-    Pdu::DataFirst {
-        number,
-        length,
-        block,
+    Found {
+        answer: Pdu::DataFirst {
+            number: number.value,
+            length: length.value,
+            block,
+        },
+        loose: number.wide | length.wide,
     }
 }
 
@@ -147,15 +174,33 @@ fn closing(pdu: &[u8], number: u32, at: usize) -> Pdu
     Pdu::Close { number }
 }
 
-fn after_number(pdu: &[u8], from_server: bool, cmd: u8, middle: u8, number: u32, at: usize) -> Pdu
+// By command and direction. The middle bits are Pri in a Create request, the width of Length in a Data First, and else
+// Sp, which plain reading ignores.
+fn after_number(
+    pdu: &[u8],
+    from_server: bool,
+    cmd: u8,
+    middle: u8,
+    number: Measured,
+    at: usize,
+) -> Found
     requires { ⌜ (at ≤ 5) × (at ≤ length (now pdu)) ⌝ }
-    ensures { λ r. ⌜ r ≡ afterNumber «from_server» (now (pdu .entry)) cmd middle number at ⌝ }
+    ensures { λ r. ⌜ r .answer ≡ afterNumber «from_server» (now (pdu .entry)) cmd middle (number .value) at ⌝ }
+    ensures { λ r. ⌜ judged r ≡ strictly (looseAfter «from_server» (now (pdu .entry)) cmd middle (number .wide) at)
+        (afterNumber «from_server» (now (pdu .entry)) cmd middle (number .value) at) ⌝ }
 {
+    let value = number.value;
+    let loose = number.wide | (middle != 0);
     if cmd == CREATE {
         if from_server {
-            return create_request(pdu, number, middle, at);
+            let answer = create_request(pdu, value, middle, at);
+            return Found {
+                answer,
+                loose: number.wide,
+            };
         }
-        return create_response(pdu, number, at);
+        let answer = create_response(pdu, value, at);
+        return Found { answer, loose };
     }
     if cmd == DATA_FIRST {
         return data_first(pdu, number, numbers::width(middle), at);
@@ -165,9 +210,14 @@ fn after_number(pdu: &[u8], from_server: bool, cmd: u8, middle: u8, number: u32,
             at,
             len: pdu.len() - at,
         };
-        return Pdu::Data { number, block };
+        let answer = Pdu::Data {
+            number: value,
+            block,
+        };
+        return Found { answer, loose };
     }
-    closing(pdu, number, at)
+    let answer = closing(pdu, value, at);
+    Found { answer, loose }
 }
 
 // A Data First whose Length has the invalid width code.
@@ -181,18 +231,20 @@ fn bad_length_width(cmd: u8, middle: u8) -> bool
 }
 
 // Commands 1 to 4: the widths are judged, then the channel number is read.
-fn numbered(pdu: &[u8], from_server: bool, cmd: u8, middle: u8, cb_id: u8) -> Pdu
-    ensures { λ r. ⌜ r ≡ numbered «from_server» (now (pdu .entry)) cmd middle «cb_id» ⌝ }
+fn numbered(pdu: &[u8], from_server: bool, cmd: u8, middle: u8, cb_id: u8) -> Found
+    ensures { λ r. ⌜ r .answer ≡ numbered «from_server» (now (pdu .entry)) cmd middle «cb_id» ⌝ }
+    ensures { λ r. ⌜ judged r ≡ strictly (looseNumbered «from_server» (now (pdu .entry)) cmd middle «cb_id»)
+        (numbered «from_server» (now (pdu .entry)) cmd middle «cb_id») ⌝ }
 {
     if cb_id == 3 {
-        return Pdu::Refused(Refusal::BadField);
+        return refused(Refusal::BadField);
     }
     if bad_length_width(cmd, middle) {
-        return Pdu::Refused(Refusal::BadField);
+        return refused(Refusal::BadField);
     }
     let width = numbers::width(cb_id);
     if pdu.len() < 1 + width {
-        return Pdu::Refused(Refusal::CutShort);
+        return refused(Refusal::CutShort);
     }
     after_number(
         pdu,
@@ -272,31 +324,80 @@ fn capabilities(pdu: &[u8], from_server: bool, cb_id: u8) -> Pdu
     by_version(pdu, from_server, short_at(pdu, 2))
 }
 
-fn by_command(pdu: &[u8], from_server: bool, cmd: u8, middle: u8, cb_id: u8) -> Pdu
-    ensures { λ r. ⌜ r ≡ byCommand «from_server» (now (pdu .entry)) cmd middle «cb_id» ⌝ }
+fn by_command(pdu: &[u8], from_server: bool, cmd: u8, middle: u8, cb_id: u8) -> Found
+    ensures { λ r. ⌜ r .answer ≡ byCommand «from_server» (now (pdu .entry)) cmd middle «cb_id» ⌝ }
+    ensures { λ r. ⌜ judged r ≡ strictly (looseBy «from_server» (now (pdu .entry)) cmd middle «cb_id»)
+        (byCommand «from_server» (now (pdu .entry)) cmd middle «cb_id») ⌝ }
 {
     if cmd < CREATE {
-        return Pdu::Refused(Refusal::NoCommand);
+        return refused(Refusal::NoCommand);
     }
     if CAPABILITIES < cmd {
-        return Pdu::Refused(Refusal::NoCommand);
+        return refused(Refusal::NoCommand);
     }
     if cmd == CAPABILITIES {
-        return capabilities(pdu, from_server, cb_id);
+        let answer = capabilities(pdu, from_server, cb_id);
+        return Found {
+            answer,
+            loose: middle != 0,
+        };
     }
     numbered(pdu, from_server, cmd, middle, cb_id)
+}
+
+// What both readings find in a PDU that the server sent, or that the client sent.
+fn find(pdu: &[u8], from_server: bool) -> Found
+    ensures { λ r. ⌜ r .answer ≡ readPdu «from_server» (now (pdu .entry)) ⌝ }
+    ensures { λ r. ⌜ judged r ≡ readStrict «from_server» (now (pdu .entry)) ⌝ }
+{
+    if pdu.len() == 0 {
+        return refused(Refusal::CutShort);
+    }
+    if PDU_MAX < pdu.len() {
+        return refused(Refusal::TooLong);
+    }
+    let first = pdu[0];
+    by_command(pdu, from_server, first / 16, first / 4 % 4, first % 4)
 }
 
 // Reads a PDU that the server sent, or that the client sent.
 pub fn read(pdu: &[u8], from_server: bool) -> Pdu
     ensures { λ r. ⌜ r ≡ readPdu «from_server» (now (pdu .entry)) ⌝ }
 {
-    if pdu.len() == 0 {
-        return Pdu::Refused(Refusal::CutShort);
+    let found = find(pdu, from_server);
+    found.answer
+}
+
+// Reads a PDU and refuses, last, one that isn't the only byte string of its meaning.
+pub fn read_strict(pdu: &[u8], from_server: bool) -> Pdu
+    ensures { λ r. ⌜ r ≡ readStrict «from_server» (now (pdu .entry)) ⌝ }
+{
+    let found = find(pdu, from_server);
+    let answer = found.answer;
+    if let Pdu::Refused(why) = answer {
+        return Pdu::Refused(why);
     }
-    if PDU_MAX < pdu.len() {
-        return Pdu::Refused(Refusal::TooLong);
+    if found.loose {
+        return Pdu::Refused(Refusal::Loose);
     }
-    let first = pdu[0];
-    by_command(pdu, from_server, first / 16, first / 4 % 4, first % 4)
+    answer
+}
+
+// The number of an answer's refusal, or 0 where it is none.
+pub fn verdict(answer: Pdu) -> u8
+    ensures { λ r. ⌜ r ≡ verdictNumber (verdictOn answer) ⌝ }
+{
+    let Pdu::Refused(why) = answer else {
+        return 0;
+    };
+    paper::refusal_number(why)
+}
+
+// Strict reading for a host in C: 0 for a PDU that it accepts, or the refusal's number. The client sent the PDU where
+// `from_server` is 0, and else the server.
+#[no_mangle]
+pub extern "C" fn dvc_strict(pdu: &[u8], from_server: u32) -> u32
+    ensures { λ r. ⌜ r ≡ strictVerdict «from_server» (now (pdu .entry)) ⌝ }
+{
+    verdict(read_strict(pdu, from_server != 0)) as u32
 }

@@ -5,6 +5,7 @@
 // 6. A file that can't be opened or read is said on standard error, and ends the run.
 use libc::STDERR_FILENO;
 use walking::Job;
+use walking::Told;
 ghost use mathlib.Core.Path.{_≡_};
 
 // Walks through the file, behind a line with its name. Answers whether it could.
@@ -22,7 +23,7 @@ fn walk_file(name: &[u8]) -> bool
     if !files::write(b"\n") {
         return false;
     }
-    let done = stream::run(Job::Lines, fd, name, b"PUMP\0");
+    let done = stream::run(Job::Client(Told::Lines), fd, name, b"PUMP\0");
     libc::close(fd);
     done
 }

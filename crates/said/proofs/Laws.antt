@@ -1,7 +1,7 @@
 -- Why the program's rows and words are those of the definitions.
 -- Assumes nothing.
-use mathlib.Core.Path.{_≡_, refl, sym, ap, _∙_}
-use mathlib.Core.Bool.{Bool, true, false}
+use mathlib.Core.Path.{_≡_, refl, ap, _∙_}
+use mathlib.Core.Bool.{Bool}
 use mathlib.Core.List.{List, [], _∷_, _++_, append-assoc, append-nil}
 use Prim.Native.Nat.{ℕ, zero, suc, _+_, _-_, _≤_, _<_, min}
 use native.Mathlib.Omega.{arith}
@@ -10,8 +10,6 @@ use Rattle.lists.proofs.Laid.{from-to, take-least}
 use Rattle.numbers.specs.Status.{unsignedOf}
 use Rattle.lines.specs.Decimal.{field}
 use Rattle.lines.specs.Lines.{SPACE}
-use Rattle.listeners.specs.Listeners.{sameBytes}
-use Rattle.listeners.proofs.Matches.{same-self, same-equal}
 use Rattle.reading.specs.Said.{said, bytesAt}
 use Rattle.reading.specs.declared.Extent.{Extent}
 use Rattle.reading.specs.declared.Pdu.{Pdu}
@@ -44,15 +42,6 @@ unfolding spelledOut
 spelled-on [] i h = absurd (omega arith)
 spelled-on (n ∷ ns) zero h = append-nil (field n SPACE)
 spelled-on (n ∷ ns) (suc i) h = rw (spelled-on ns i (omega arith), append-assoc)
-
--- bytes compared are bytes that are the same or not
-pub compared : (a b : List ℕ) (r : Bool) → (r ≡ true → a ≡ b) → (a ≡ b → r ≡ true) → r ≡ sameBytes a b
-compared a b r f g = agree r (sameBytes a b) (λ e. rw (f e) (same-self b)) (λ e. g (same-equal a b e))
-  where
-    agree : (s t : Bool) → (s ≡ true → t ≡ true) → (t ≡ true → s ≡ true) → s ≡ t
-    agree true t p q = sym (p refl)
-    agree false true p q = q refl
-    agree false false p q = refl
 
 -- what the writer of the kind answered and left
 pub so-written : (pdu out after : List ℕ) (read : Pdu) (r : Written) (bad : Bool) (bytes : List ℕ)

@@ -5,6 +5,7 @@
 // each is checked is a table of docs/PROMISES.md. What can't be opened, read or written is said on standard error, and
 // ends the run.
 use walking::Job;
+use walking::Told;
 ghost use mathlib.Core.Path.{_≡_};
 
 // Walks through a file with a list, behind a line with its name. Answers whether it could. The list is as it was.
@@ -22,7 +23,7 @@ fn walk(name: &[u8], list: &[u8]) -> bool
     if !files::write(b"\n") {
         return false;
     }
-    let done = stream::run(Job::Lines, fd, name, list);
+    let done = stream::run(Job::Client(Told::Lines), fd, name, list);
     libc::close(fd);
     done
 }

@@ -13,7 +13,7 @@ use lib.ListN.{length}
 use Rattle.paper.specs.Sizes.{PARTS, STORE, MESSAGE-MAX}
 use Rattle.paper.specs.Refusals.{refusalNumber}
 use Rattle.paper.specs.declared.Refusal.{Refusal}
-use Rattle.paper.specs.declared.Refusal.the-variants.{BadCall, CutShort, TooLong, NoCommand, BadField, BadList, WrongTime, NotOpen, AlreadyOpen, StillJoining, OverLimit, PastLength, IsSpoiled, NoStart}
+use Rattle.paper.specs.declared.Refusal.the-variants.{BadCall, CutShort, TooLong, NoCommand, BadField, BadList, WrongTime, NotOpen, AlreadyOpen, StillJoining, OverLimit, PastLength, IsSpoiled, NoStart, Loose}
 use Rattle.lists.specs.Bytes.{laid, zeros}
 use Rattle.lists.proofs.Cases.{choice, true-not-false}
 use Rattle.reading.specs.Reading.{readPdu}
@@ -194,6 +194,7 @@ reading-keeps OverLimit h = absurd h
 reading-keeps PastLength h = absurd h
 reading-keeps IsSpoiled h = refl
 reading-keeps NoStart h = refl
+reading-keeps Loose h = refl
 
 -- what reading makes sure of a refusal in it
 abbrev Mild : Event → Type 0

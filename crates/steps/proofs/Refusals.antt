@@ -18,7 +18,8 @@ use Rattle.reading.specs.Said.{bytesAt}
 use Rattle.reading.specs.declared.Extent.{Extent}
 use Rattle.reading.specs.declared.Pdu.{Pdu}
 use Rattle.reading.specs.declared.Pdu.the-variants.{CreateRequest, CreateResponse, DataFirst, Data, Close, CapsRequest, CapsResponse, Refused}
-use Rattle.reading.specs.Layouts.{verdictOn, readingRows}
+use Rattle.reading.specs.Said.{verdictOn}
+use Rattle.reading.specs.Layouts.{readingRows}
 use Rattle.reading.proofs.Placed.{Placed, placed}
 use Rattle.reading.proofs.Layouts.{reading-refusals}
 use Rattle.listeners.specs.Listeners.{goodList, isListed}

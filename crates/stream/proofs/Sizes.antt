@@ -9,8 +9,9 @@ use lib.Seq.{length-take-le}
 use Rattle.paper.specs.Sizes.{MESSAGE-MAX}
 use Rattle.lines.specs.Lines.{MESSAGE-LINE-MAX}
 use Rattle.walking.specs.declared.Job.{Job}
-use Rattle.walking.specs.declared.Job.the-variants.{Lines, Messages, Moves}
-use Rattle.walking.specs.Walking.{roomFor}
+use Rattle.walking.specs.declared.Job.the-variants.{Client, Strict}
+use Rattle.walking.specs.declared.Told.the-variants.{Lines, Messages, Moves}
+use Rattle.walking.specs.Walking.{roomTold, roomFor}
 
 pub record Sized (store₀ buffer₀ out₀ store buffer out : List ℕ) (had laid : ℕ) : Type 0 where
   pub store-long : length store ≡ length store₀
@@ -26,7 +27,8 @@ come-back front l n h e = omega (arith, length-append front (drop n l), length-d
 
 -- the output buffer has room for any text of any job
 pub any-text-fits : (job : Job) → roomFor job ≤ 65536
-unfolding roomFor MESSAGE-LINE-MAX MESSAGE-MAX
-any-text-fits Lines = omega arith
-any-text-fits Messages = omega arith
-any-text-fits Moves = omega arith
+unfolding roomFor roomTold MESSAGE-LINE-MAX MESSAGE-MAX
+any-text-fits (Client Lines) = omega arith
+any-text-fits (Client Messages) = omega arith
+any-text-fits (Client Moves) = omega arith
+any-text-fits (Strict fromServer) = omega arith

@@ -20,8 +20,8 @@ use Rattle.channel.specs.declared.Concern.the-variants.{NoChannel, Channel}
 use Rattle.table.specs.declared.Table.{Table}
 use Rattle.table.specs.Table.{holds, numberPlace}
 use Rattle.client.specs.Client.{placeFor, received, locallyClosed, guarded, Whole, wholeOf}
-use Rattle.walking.specs.declared.Job.{Job}
-use Rattle.walking.specs.declared.Job.the-variants.{Lines, Messages, Moves}
+use Rattle.walking.specs.declared.Told.{Told}
+use Rattle.walking.specs.declared.Told.the-variants.{Lines, Messages, Moves}
 use Rattle.walking.specs.Walking.{Walk, isClose, answered, placeIn}
 
 -- no bytes are no local close
@@ -35,7 +35,7 @@ first-byte [] h = absurd (h refl)
 first-byte (b ∷ bytes) h = refl
 
 -- a local close has its first byte
-pub close-some : (job : Job) (bytes : List ℕ) → isClose job bytes ≡ true → 1 ≤ length bytes
+pub close-some : (told : Told) (bytes : List ℕ) → isClose told bytes ≡ true → 1 ≤ length bytes
 unfolding isClose
 close-some Lines bytes h = absurd (true-not-false (sym h))
 close-some Messages bytes h = absurd (true-not-false (sym h))
@@ -49,10 +49,10 @@ at-most t NoChannel long = omega arith
 at-most t (Channel n) long = rw long at (place-le (holds n) (t .records))
 
 -- a step's place is that of the channel that its answer concerns
-pub beside : (job : Job) (list : List ℕ) (w : Walk) (bytes : List ℕ)
-    → answered job list w bytes .result .place ≡ placeIn (answered job list w bytes .result)
+pub beside : (told : Told) (list : List ℕ) (w : Walk) (bytes : List ℕ)
+    → answered told list w bytes .result .place ≡ placeIn (answered told list w bytes .result)
 unfolding answered received locallyClosed guarded wholeOf placeIn
-beside job list w bytes = choice (λ (x : Whole). x .result .place ≡ placeIn (x .result)) (isClose job bytes) (λ e. refl) (λ e. refl)
+beside told list w bytes = choice (λ (x : Whole). x .result .place ≡ placeIn (x .result)) (isClose told bytes) (λ e. refl) (λ e. refl)
 
 -- past the end there is nothing
 drop-least : (s : ℕ) (l : List ℕ) → drop (min s (length l)) l ≡ drop s l

@@ -16,11 +16,12 @@ use Rattle.records.specs.declared.Due.the-variants.{Read, Room, Nothing}
 use Rattle.records.specs.Records.{pdus}
 use Rattle.records.specs.Walks.{Program, Turned, stay, walkOver, dueFor, walked, ending, ended, turned}
 use Rattle.walking.specs.declared.Job.{Job}
-use Rattle.walking.specs.declared.Job.the-variants.{Lines, Messages, Moves}
+use Rattle.walking.specs.declared.Job.the-variants.{Client, Strict}
+use Rattle.walking.specs.declared.Told.the-variants.{Lines, Messages, Moves}
 use Rattle.walking.specs.declared.Kept.{Kept}
 use Rattle.walking.specs.declared.Walked.{Walked}
 use Rattle.walking.specs.declared.Turned.{Turned as Turn}
-use Rattle.walking.specs.Walking.{Walk, walkOf, roomFor, cutFor, program, Walks, Turns}
+use Rattle.walking.specs.Walking.{Walk, walkOf, roomTold, roomFor, cutFor, program, Walks, Turns}
 
 -- nothing moves
 unmoved : (input : List ℕ) → input ≡ laid input 0 (drop 0 input)
@@ -86,7 +87,8 @@ read-turn p room w had input more = rw (ne-eqb _ _ more)
 
 -- the room that a program asks for holds its line for a record that is cut short
 pub line-fits : (job : Job) → LINE-MAX ≤ roomFor job
-unfolding roomFor MESSAGE-LINE-MAX MESSAGE-MAX
-line-fits Lines = omega arith
-line-fits Messages = omega arith
-line-fits Moves = omega arith
+unfolding roomFor roomTold MESSAGE-LINE-MAX MESSAGE-MAX
+line-fits (Client Lines) = omega arith
+line-fits (Client Messages) = omega arith
+line-fits (Client Moves) = omega arith
+line-fits (Strict fromServer) = omega arith

@@ -1,12 +1,16 @@
--- The manager's walks over records: each record goes to the client's step, and what is written says what was answered.
+-- Walks over records: each record goes to the client's step, and what is written says what was answered; or it is only
+-- read, strictly, and what is written says whether it was accepted.
 use Prim.Native.Nat.{ℕ, _+_, _-_, _%_, _^_, _≤_}
 use mathlib.Core.Bool.{Bool, false, cond}
 use mathlib.Core.List.{List, []}
 use lib.Dec.{eqb}
 use lib.ListN.{length, take, drop, getD}
 use Rattle.paper.specs.Sizes.{STORE, REPLY-MIN}
+use Rattle.paper.specs.Rows.{verdictNumber}
 use Rattle.lists.specs.Bytes.{laid, zeros}
 use Rattle.numbers.specs.Numbers.{valueOf}
+use Rattle.reading.specs.Said.{verdictOn}
+use Rattle.reading.specs.Strict.{readStrict}
 use Rattle.channel.specs.declared.Answer.{Answer}
 use Rattle.channel.specs.declared.Answer.the-variants.{Ready, Opened, Declined, Held, Message, Closed, Ignored, Refused}
 use Rattle.channel.specs.Answers.{concernOf}
@@ -16,10 +20,13 @@ use Rattle.store.specs.Parts.{part}
 use Rattle.client.specs.declared.Received.{Received}
 use Rattle.client.specs.Client.{Whole, placeFor, received, locallyClosed}
 use Rattle.lines.specs.Lines.{LINE-MAX, MESSAGE-LINE-MAX, headerLine, lineOf, cutLineOf, messageLineOf}
+use Rattle.lines.specs.Lines.{readingHeader, readingLineOf}
 use Rattle.records.specs.declared.Due.the-variants.{Read}
 use Rattle.records.specs.Walks.{Program, output, Went, Turned}
 use Rattle.walking.specs.declared.Job.{Job}
-use Rattle.walking.specs.declared.Job.the-variants.{Lines, Messages, Moves}
+use Rattle.walking.specs.declared.Job.the-variants.{Client, Strict}
+use Rattle.walking.specs.declared.Told.{Told}
+use Rattle.walking.specs.declared.Told.the-variants.{Lines, Messages, Moves}
 use Rattle.walking.specs.declared.Kept.{Kept}
 use Rattle.walking.specs.declared.Stand.{Stand}
 use Rattle.walking.specs.declared.Stepped.{Stepped}
@@ -46,10 +53,14 @@ beginning = record { kept = record { table = emptyTable; place = 0 }; had = 0; d
 abbrev pub PLACES : ℕ
 PLACES = 2 ^ 64
 
--- ---- a record
+-- the place of the record behind
+abbrev pub nextPlace : Walk → ℕ
+nextPlace w = (w .place + 1) % PLACES
+
+-- ---- a record of the client's
 
 -- among moves a record whose first byte is 0, which no command has, is a local close
-unfoldable pub isClose : Job → List ℕ → Bool
+unfoldable pub isClose : Told → List ℕ → Bool
 isClose Lines bytes = false
 isClose Messages bytes = false
 isClose Moves bytes = eqb (getD bytes 0 1) 0
@@ -59,17 +70,17 @@ abbrev pub closeNumber : List ℕ → ℕ
 closeNumber bytes = valueOf (drop 1 bytes)
 
 -- what the client's step gives for a record
-unfoldable pub answered : Job → List ℕ → Walk → List ℕ → Whole
-answered job list w bytes =
-    cond (isClose job bytes) (locallyClosed (w .table) (w .store) (closeNumber bytes) (zeros REPLY-MIN))
+unfoldable pub answered : Told → List ℕ → Walk → List ℕ → Whole
+answered told list w bytes =
+    cond (isClose told bytes) (locallyClosed (w .table) (w .store) (closeNumber bytes) (zeros REPLY-MIN))
     (received (w .table) (w .store) list bytes (zeros REPLY-MIN))
 
-unfoldable pub afterRecord : Job → List ℕ → Walk → List ℕ → Walk
-afterRecord job list w bytes =
+unfoldable pub afterStep : Told → List ℕ → Walk → List ℕ → Walk
+afterStep told list w bytes =
     record {
-      table = answered job list w bytes .result .table;
-      store = answered job list w bytes .store;
-      place = (w .place + 1) % PLACES;
+      table = answered told list w bytes .result .table;
+      store = answered told list w bytes .store;
+      place = nextPlace w;
     }
 
 -- ---- what is written
@@ -94,27 +105,53 @@ messageText place at store (Closed number) = []
 messageText place at store (Ignored number) = []
 messageText place at store (Refused why concern) = []
 
--- the text of a record, from what the step gave and left in the store
-unfoldable pub textFor : Job → ℕ → Received → List ℕ → List ℕ
+-- the text of a step, from what it gave and left in the store
+unfoldable pub textFor : Told → ℕ → Received → List ℕ → List ℕ
 textFor Lines place r store = lineOf place (r .answer) (r .sent)
 textFor Messages place r store = messageText place (r .place) store (r .answer)
 textFor Moves place r store = lineOf place (r .answer) (r .sent)
 
+unfoldable pub firstTold : Told → List ℕ
+firstTold Lines = headerLine
+firstTold Messages = []
+firstTold Moves = headerLine
+
+unfoldable pub cutTold : Told → ℕ → List ℕ
+cutTold Lines place = cutLineOf place
+cutTold Messages place = []
+cutTold Moves place = cutLineOf place
+
+-- the most bytes of a step's text
+unfoldable pub roomTold : Told → ℕ
+roomTold Lines = LINE-MAX
+roomTold Messages = MESSAGE-LINE-MAX
+roomTold Moves = LINE-MAX
+
+-- ---- by job
+
 unfoldable pub firstFor : Job → List ℕ
-firstFor Lines = headerLine
-firstFor Messages = []
-firstFor Moves = headerLine
+firstFor (Client told) = firstTold told
+firstFor (Strict fromServer) = readingHeader
 
 unfoldable pub cutFor : Job → ℕ → List ℕ
-cutFor Lines place = cutLineOf place
-cutFor Messages place = []
-cutFor Moves place = cutLineOf place
+cutFor (Client told) place = cutTold told place
+cutFor (Strict fromServer) place = cutLineOf place
 
 -- the most bytes of a record's text
 unfoldable pub roomFor : Job → ℕ
-roomFor Lines = LINE-MAX
-roomFor Messages = MESSAGE-LINE-MAX
-roomFor Moves = LINE-MAX
+roomFor (Client told) = roomTold told
+roomFor (Strict fromServer) = LINE-MAX
+
+-- a record that is only read leaves the table and the store
+unfoldable pub afterRecord : Job → List ℕ → Walk → List ℕ → Walk
+afterRecord (Client told) list w bytes = afterStep told list w bytes
+afterRecord (Strict fromServer) list w bytes = record { table = w .table; store = w .store; place = nextPlace w }
+
+unfoldable pub textOf : Job → List ℕ → Walk → List ℕ → List ℕ
+textOf (Client told) list w bytes =
+    textFor told (w .place) (answered told list w bytes .result) (answered told list w bytes .store)
+textOf (Strict fromServer) list w bytes =
+    readingLineOf (w .place) (verdictNumber (verdictOn (readStrict fromServer bytes)))
 
 -- the program that does a job, with a listener list
 unfoldable pub program : Job → List ℕ → Program Walk
@@ -123,7 +160,7 @@ program job list =
       first = firstFor job;
       room = roomFor job;
       after = afterRecord job list;
-      text = λ w bytes. textFor job (w .place) (answered job list w bytes .result) (answered job list w bytes .store);
+      text = textOf job list;
       cut = λ w. cutFor job (w .place);
     }
 

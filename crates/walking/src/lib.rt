@@ -1,4 +1,5 @@
-// Walks over records: each record goes to the client's step, and what is written says what was answered.
+// Walks over records: each record goes to the client's step, and what is written says what was answered; or it is only
+// read, strictly, and what is written says whether it was accepted.
 //
 // A walk begins with `begin`, which lays what stands before the first record. Then, until it waits for nothing, it is
 // taken on by `turn`: the caller lends it the input that is there, what was left and behind it what was read, and gets
@@ -23,17 +24,27 @@ ghost use Rattle.lines.specs.Lines.{LINE-MAX, MESSAGE-LINE-MAX, messageLineOf};
 ghost use Rattle.records.specs.Records.{pdus};
 ghost use Rattle.records.specs.Walks.{walkOver, turned, walked, ended};
 ghost use Rattle.client.specs.Client.{storeStarted, Whole};
+ghost use Rattle.walking.specs.declared.Job.the-variants.{Client, Strict};
 ghost use Rattle.walking.specs.Walking.{walkOf, keptOf, beginning, isClose, answered, afterRecord, placeIn, handedUp};
-ghost use Rattle.walking.specs.Walking.{messageText, textFor, firstFor, cutFor, roomFor, program, Steps, Walks, Turns};
+ghost use Rattle.walking.specs.Walking.{messageText, textFor, firstTold, cutTold, roomTold, firstFor, cutFor};
+ghost use Rattle.walking.specs.Walking.{roomFor, program, Steps, Walks, Turns};
 
-// What a walk is for.
-pub enum Job {
+// What is told of the client's steps.
+pub enum Told {
     // A line for each PDU.
     Lines,
     // A line with the bytes of each message handed up.
     Messages,
     // A line for each move: a PDU, or a local close.
     Moves,
+}
+
+// What a walk is for.
+pub enum Job {
+    // The client's step for each record.
+    Client(Told),
+    // Strict reading of each record: a line for each PDU.
+    Strict { from_server: bool },
 }
 
 // What a walk keeps from record to record, beside the store: the table, and the place of the next record.
@@ -70,37 +81,66 @@ struct Walked {
 }
 
 // The most bytes of a record's text.
+fn room_told(told: Told) -> usize
+    ensures { λ r. ⌜ r ≡ roomTold told ⌝ }
+{
+    match told {
+        Told::Lines => LINE_MAX,
+        Told::Messages => MESSAGE_LINE_MAX,
+        Told::Moves => LINE_MAX,
+    }
+}
+
 fn room_for(job: Job) -> usize
     ensures { λ r. ⌜ r ≡ roomFor job ⌝ }
 {
     match job {
-        Job::Lines => LINE_MAX,
-        Job::Messages => MESSAGE_LINE_MAX,
-        Job::Moves => LINE_MAX,
+        Job::Client(told) => room_told(told),
+        Job::Strict { from_server: _ } => LINE_MAX,
     }
 }
 
 // What stands before the first record.
+fn first_told(told: Told, out: &mut [u8]) -> usize
+    ensures { λ r. ⌜ (r ≡ length (firstTold told)) × (r ≤ LINE-MAX) ⌝ }
+    ensures { λ _. ⌜ now (out .exit) ≡ laid (now (out .entry)) 0 (firstTold told) ⌝ }
+{
+    match told {
+        Told::Lines => lines::header(out),
+        Told::Messages => 0,
+        Told::Moves => lines::header(out),
+    }
+}
+
 fn first_for(job: Job, out: &mut [u8]) -> usize
     ensures { λ r. ⌜ (r ≡ length (firstFor job)) × (r ≤ LINE-MAX) ⌝ }
     ensures { λ _. ⌜ now (out .exit) ≡ laid (now (out .entry)) 0 (firstFor job) ⌝ }
 {
     match job {
-        Job::Lines => lines::header(out),
-        Job::Messages => 0,
-        Job::Moves => lines::header(out),
+        Job::Client(told) => first_told(told, out),
+        Job::Strict { from_server: _ } => lines::reading_header(out),
     }
 }
 
 // The text of a last record that is cut short.
+fn cut_told(told: Told, out: &mut [u8], place: u64) -> usize
+    ensures { λ r. ⌜ (r ≡ length (cutTold told place)) × (r ≤ LINE-MAX) ⌝ }
+    ensures { λ _. ⌜ now (out .exit) ≡ laid (now (out .entry)) 0 (cutTold told place) ⌝ }
+{
+    match told {
+        Told::Lines => lines::cut_line(out, place),
+        Told::Messages => 0,
+        Told::Moves => lines::cut_line(out, place),
+    }
+}
+
 fn cut_for(job: Job, out: &mut [u8], place: u64) -> usize
     ensures { λ r. ⌜ (r ≡ length (cutFor job place)) × (r ≤ LINE-MAX) ⌝ }
     ensures { λ _. ⌜ now (out .exit) ≡ laid (now (out .entry)) 0 (cutFor job place) ⌝ }
 {
     match job {
-        Job::Lines => lines::cut_line(out, place),
-        Job::Messages => 0,
-        Job::Moves => lines::cut_line(out, place),
+        Job::Client(told) => cut_told(told, out, place),
+        Job::Strict { from_server: _ } => lines::cut_line(out, place),
     }
 }
 
@@ -125,13 +165,13 @@ pub fn begin(job: Job, store: &mut [u8], out: &mut [u8]) -> Turned
 }
 
 // Whether the record is a local close.
-fn is_close(job: Job, bytes: &[u8]) -> bool
-    ensures { λ r. ⌜ r ≡ isClose job (now (bytes .entry)) ⌝ }
+fn is_close(told: Told, bytes: &[u8]) -> bool
+    ensures { λ r. ⌜ r ≡ isClose told (now (bytes .entry)) ⌝ }
 {
-    match job {
-        Job::Lines => false,
-        Job::Messages => false,
-        Job::Moves => {
+    match told {
+        Told::Lines => false,
+        Told::Messages => false,
+        Told::Moves => {
             if bytes.len() == 0 {
                 return false;
             }
@@ -142,20 +182,20 @@ fn is_close(job: Job, bytes: &[u8]) -> bool
 
 // The client's step for a record.
 fn answered(
-    job: Job,
+    told: Told,
     table: Table,
     store: &mut [u8],
     list: &[u8],
     bytes: &[u8],
     place: u64,
 ) -> Received
-    ensures { λ r. ⌜ r ≡ answered job (now (list .entry))
+    ensures { λ r. ⌜ r ≡ answered told (now (list .entry))
         (record { table = table; store = now (store .entry); place = place }) (now (bytes .entry)) .result ⌝ }
-    ensures { λ _. ⌜ now (store .exit) ≡ answered job (now (list .entry))
+    ensures { λ _. ⌜ now (store .exit) ≡ answered told (now (list .entry))
         (record { table = table; store = now (store .entry); place = place }) (now (bytes .entry)) .store ⌝ }
 {
     let mut reply = [0u8; REPLY_MIN];
-    if is_close(job, bytes) {
+    if is_close(told, bytes) {
         let number = numbers::number(&bytes[1..]);
         return client::local_close(table, store, number, &mut reply);
     }
@@ -192,21 +232,63 @@ fn message_text(out: &mut [u8], place: u64, at: usize, store: &[u8], answer: Ans
     }
 }
 
-// The text of a record, at the front of the buffer.
-fn text_for(job: Job, out: &mut [u8], place: u64, received: Received, store: &[u8]) -> usize
+// The text of a step, at the front of the buffer.
+fn text_for(told: Told, out: &mut [u8], place: u64, received: Received, store: &[u8]) -> usize
     requires { ⌜ received .place ≡ placeIn received ⌝ }
-    ensures { λ r. ⌜ (r ≡ length (textFor job place received (now (store .entry)))) × (r ≤ roomFor job) ⌝ }
-    ensures { λ _. ⌜ now (out .exit) ≡ laid (now (out .entry)) 0 (textFor job place received (now (store .entry))) ⌝ }
+    ensures { λ r. ⌜ (r ≡ length (textFor told place received (now (store .entry)))) × (r ≤ roomTold told) ⌝ }
+    ensures { λ _. ⌜ now (out .exit) ≡ laid (now (out .entry)) 0 (textFor told place received (now (store .entry))) ⌝ }
 {
     let answer = received.answer;
-    match job {
-        Job::Lines => lines::line(out, place, answer, received.sent),
-        Job::Messages => message_text(out, place, received.place, store, answer),
-        Job::Moves => lines::line(out, place, answer, received.sent),
+    match told {
+        Told::Lines => lines::line(out, place, answer, received.sent),
+        Told::Messages => message_text(out, place, received.place, store, answer),
+        Told::Moves => lines::line(out, place, answer, received.sent),
     }
 }
 
-// One record: the client's step, and its text at the front of the buffer.
+// One record of the client's: its step, and its text at the front of the buffer.
+fn step_told(
+    told: Told,
+    kept: Kept,
+    store: &mut [u8],
+    list: &[u8],
+    bytes: &[u8],
+    out: &mut [u8],
+) -> Stepped
+    ensures { λ r. ⌜ Steps (program (Client told) (now (list .entry))) (walkOf kept (now (store .entry)))
+        (now (bytes .entry)) (now (out .entry)) r (now (store .exit)) (now (out .exit)) ⌝ }
+{
+    let table = kept.table;
+    let received = answered(told, table, store, list, bytes, kept.place);
+    let laid = text_for(told, out, kept.place, received, store);
+    let table = received.table;
+    Stepped {
+        kept: Kept {
+            table,
+            place: std::num::wrapping_add_u64(kept.place, 1),
+        },
+        laid,
+    }
+}
+
+// One record that is only read: its line at the front of the buffer.
+fn step_read(from_server: bool, kept: Kept, bytes: &[u8], out: &mut [u8]) -> Stepped
+    ensures { λ r. ⌜ ((list store : List ℕ) → Steps (program (Strict «from_server») list) (walkOf kept store)
+        (now (bytes .entry)) (now (out .entry)) r store (now (out .exit))) ⌝ }
+{
+    let refusal = reading::verdict(reading::read_strict(bytes, from_server));
+    let laid = lines::reading_line(out, kept.place, refusal);
+    let table = kept.table;
+    Stepped {
+        kept: Kept {
+            table,
+            place: std::num::wrapping_add_u64(kept.place, 1),
+        },
+        laid,
+    }
+}
+
+// One record.
 fn step(
     job: Job,
     kept: Kept,
@@ -218,16 +300,9 @@ fn step(
     ensures { λ r. ⌜ Steps (program job (now (list .entry))) (walkOf kept (now (store .entry))) (now (bytes .entry))
         (now (out .entry)) r (now (store .exit)) (now (out .exit)) ⌝ }
 {
-    let table = kept.table;
-    let received = answered(job, table, store, list, bytes, kept.place);
-    let laid = text_for(job, out, kept.place, received, store);
-    let table = received.table;
-    Stepped {
-        kept: Kept {
-            table,
-            place: std::num::wrapping_add_u64(kept.place, 1),
-        },
-        laid,
+    match job {
+        Job::Client(told) => step_told(told, kept, store, list, bytes, out),
+        Job::Strict { from_server } => step_read(from_server, kept, bytes, out),
     }
 }
 

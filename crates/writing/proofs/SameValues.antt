@@ -1,9 +1,9 @@
 -- "What we write we read back as the same values": a PDU that isn't refused stands at the buffer's front, and what is laid there is
--- an encoding of its values, which reading answers.
+-- the narrowest encoding of its values, which both readings answer.
 -- Assumes nothing.
 use mathlib.Core.Path.{_≡_, refl, sym, ap, _∙_}
 use mathlib.Core.Bool.{Bool, true, false, cond, not}
-use mathlib.Core.List.{List, [], _∷_}
+use mathlib.Core.List.{List}
 use Prim.Native.Nat.{ℕ, _≤_, _<_}
 use native.Mathlib.Omega.{arith}
 use borrow.Author.Tests.{ltb-false, eqb-true, eqb-false, not-false}
@@ -24,16 +24,19 @@ use Rattle.reading.specs.declared.Charges.{Charges}
 use Rattle.reading.specs.Grammar.{Value, create-request, create-response, data-first, data-block, close}
 use Rattle.reading.specs.Grammar.{capabilities-request, capabilities-response, values, readAs, SmallCharges}
 use Rattle.reading.specs.Grammar.{noCharges, Encodes}
+use Rattle.reading.specs.Tight.{strictAs, tight}
 use Rattle.reading.proofs.Grammar.{every-encoding, zero-free, same-charges}
+use Rattle.reading.proofs.Strict.{every-tight}
 use Rattle.laying.specs.Laying.{bufferAfter, createRequestBytes, createResponseBytes, dataFirstBytes, dataBytes}
 use Rattle.laying.specs.Laying.{closeBytes, capsRequestBytes, capsResponseBytes}
 use Rattle.laying.proofs.Encoded.{close-encoded, data-encoded, data-first-encoded, create-response-encoded}
 use Rattle.laying.proofs.Encoded.{create-request-encoded, caps-response-encoded, caps-request-1-encoded}
-use Rattle.laying.proofs.Encoded.{caps-request-encoded}
+use Rattle.laying.proofs.Encoded.{caps-request-encoded, close-tight, data-tight, data-first-tight}
+use Rattle.laying.proofs.Encoded.{create-response-tight, create-request-tight, caps-response-tight, caps-request-tight}
 use Rattle.reading.specs.Reading.{badVersion}
 use Rattle.reading.proofs.Placed.{good-version}
 use Rattle.writing.specs.Writing.{judged, written, outcome, badRequest, allZero, badCapabilities}
-use Rattle.writing.specs.ReadBack.{ReadsBack}
+use Rattle.writing.specs.ReadBack.{ReadsBack, StrictBack}
 use Rattle.writing.specs.declared.Written.{Written}
 use Rattle.writing.specs.declared.Written.the-variants.{Length, Refused}
 use Rattle.writing.proofs.write_create_request.Reads as create-request-contract
@@ -69,47 +72,66 @@ went bad pdu out after r n e f g = go (ltb (length out) PDU-MAX) bad (ltb PDU-MA
         let laid-there : after ≡ laid out 0 pdu = rw g at f in
         record { good = q; short-enough = ltb-false PDU-MAX (length pdu) w; stands = rw (laid-there, ← m) (front out pdu k) }
 
--- what is an encoding wherever it isn't refused is read back
-reads-back :
-    (fromServer bad : Bool) (pdu : List ℕ) (v : Value) → (bad ≡ false → Encodes fromServer v pdu) → ReadsBack fromServer bad pdu v
-reads-back fromServer bad pdu v encodes out n g =
+-- what a kind's writer lays, where it isn't refused: the narrowest encoding of its values
+pub record Good (fromServer bad : Bool) (pdu : List ℕ) (v : Value) : Type 0 where
+  pub encodes : bad ≡ false → Encodes fromServer v pdu
+  pub is-tight : bad ≡ false → pdu ≡ tight v
+
+-- both readings answer the values
+pub reads-back : (fromServer bad : Bool) (pdu : List ℕ) (v : Value) → Good fromServer bad pdu v → ReadsBack fromServer bad pdu v
+reads-back fromServer bad pdu v laid-so out n g =
     let w = went bad pdu out _ _ n refl refl g in
-    ap (readAs fromServer) (w .stands) ∙ every-encoding fromServer v pdu (encodes (w .good)) (w .short-enough)
+    ap (readAs fromServer) (w .stands) ∙ every-encoding fromServer v pdu (laid-so .encodes (w .good)) (w .short-enough)
+
+pub strict-back : (fromServer bad : Bool) (pdu : List ℕ) (v : Value) → Good fromServer bad pdu v → StrictBack fromServer bad pdu v
+strict-back fromServer bad pdu v laid-so out n g =
+    let w = went bad pdu out _ _ n refl refl g in
+    ap (strictAs fromServer) (w .stands)
+    ∙ every-tight fromServer v pdu (record { encodes = laid-so .encodes (w .good); is-tight = laid-so .is-tight (w .good); short = w .short-enough })
 
 -- ---- each kind
 
-pub close-reads : (fromServer : Bool) (number : ℕ) → number < NUMBERS → ReadsBack fromServer false (closeBytes number) (close number)
-close-reads fromServer number h = reads-back fromServer false _ _ (λ g. close-encoded number h fromServer)
+pub close-good : (fromServer : Bool) (number : ℕ) → number < NUMBERS → Good fromServer false (closeBytes number) (close number)
+close-good fromServer number h = record { encodes = λ g. close-encoded number h fromServer; is-tight = λ g. close-tight number }
 
-pub data-reads :
+pub data-good :
     (fromServer : Bool) (number : ℕ) (block : List ℕ) → number < NUMBERS
-    → ReadsBack fromServer false (dataBytes number block) (data-block number block)
-data-reads fromServer number block h = reads-back fromServer false _ _ (λ g. data-encoded number h fromServer block)
+    → Good fromServer false (dataBytes number block) (data-block number block)
+data-good fromServer number block h =
+    record { encodes = λ g. data-encoded number h fromServer block; is-tight = λ g. data-tight number block }
 
-pub data-first-reads :
+pub data-first-good :
     (fromServer : Bool) (number len : ℕ) (block : List ℕ) → number < NUMBERS → len < NUMBERS
-    → ReadsBack fromServer false (dataFirstBytes number len block) (data-first number len block)
-data-first-reads fromServer number len block h k = reads-back fromServer false _ _ (λ g. data-first-encoded number h fromServer len block k)
+    → Good fromServer false (dataFirstBytes number len block) (data-first number len block)
+data-first-good fromServer number len block h k =
+    record { encodes = λ g. data-first-encoded number h fromServer len block k; is-tight = λ g. data-first-tight number len block }
 
-pub create-response-reads :
+pub create-response-good :
     (number : ℕ) (status : ℤ) → number < NUMBERS → SFits w32 status
-    → ReadsBack false false (createResponseBytes number status) (create-response number status)
-create-response-reads number status h f = reads-back false false _ _ (λ g. create-response-encoded number h status f)
+    → Good false false (createResponseBytes number status) (create-response number status)
+create-response-good number status h f =
+    record { encodes = λ g. create-response-encoded number h status f; is-tight = λ g. create-response-tight number status }
 
 -- a class of two bits and no zero in the name
-pub create-request-reads :
+pub create-request-good :
     (number class : ℕ) (name : List ℕ) → number < NUMBERS
-    → ReadsBack true (badRequest class name) (createRequestBytes number class name) (create-request number class name)
+    → Good true (badRequest class name) (createRequestBytes number class name) (create-request number class name)
 unfolding badRequest
-create-request-reads number class name h = reads-back true _ _ _ good
-  where
-    good : badRequest class name ≡ false → Encodes true (create-request number class name) (createRequestBytes number class name)
-    good g =
-        let p = neither (ltb 3 class) (ltb (place isZero name) (length name)) g in
-        create-request-encoded number h class name (ltb-false 3 class (p .0)) (zero-free name (ltb-false (place isZero name) (length name) (p .1)))
+create-request-good number class name h =
+    record {
+      encodes =
+          λ g. let p = neither (ltb 3 class) (ltb (place isZero name) (length name)) g in
+          create-request-encoded number h class name (ltb-false 3 class (p .0)) (zero-free name (ltb-false (place isZero name) (length name) (p .1)));
+      is-tight =
+          λ g. create-request-tight number class name (ltb-false 3 class (neither (ltb 3 class) (ltb (place isZero name) (length name)) g .0));
+    }
 
-pub caps-response-reads : (version : ℕ) → ReadsBack false (badVersion version) (capsResponseBytes version) (capabilities-response version)
-caps-response-reads version = reads-back false _ _ _ (λ g. let v = good-version version g in caps-response-encoded version (v .0) (v .1))
+pub caps-response-good : (version : ℕ) → Good false (badVersion version) (capsResponseBytes version) (capabilities-response version)
+caps-response-good version =
+    record {
+      encodes = λ g. let v = good-version version g in caps-response-encoded version (v .0) (v .1);
+      is-tight = λ g. caps-response-tight version;
+    }
 
 -- charges of 0 are the charges that version 1 is read with
 no-charges : (charges : Charges) → allZero charges ≡ true → noCharges ≡ charges
@@ -122,11 +144,11 @@ no-charges charges h =
     (sym (eqb-true (charges .class0) 0 (p0 .0))) (sym (eqb-true (charges .class1) 0 (p1 .0)))
     (sym (eqb-true (charges .class2) 0 (p2 .0))) (sym (eqb-true (charges .class3) 0 (p2 .1)))
 
-pub caps-request-good :
+pub caps-request-encodes :
     (version : ℕ) (charges : Charges) → SmallCharges charges → badCapabilities version charges ≡ false
     → Encodes true (capabilities-request version charges) (capsRequestBytes version charges)
 unfolding badCapabilities
-caps-request-good version charges f = go (eqb version 1) refl
+caps-request-encodes version charges f = go (eqb version 1) refl
   where
     go :
         (t : Bool) → eqb version 1 ≡ t → cond t (not (allZero charges)) (badVersion version) ≡ false
@@ -140,10 +162,11 @@ caps-request-good version charges f = go (eqb version 1) refl
         let two : 2 ≤ version = omega (arith, eqb-false version 1 e, v .0) in
         caps-request-encoded version charges e two (v .1) f
 
-pub caps-request-reads :
+pub caps-request-good :
     (version : ℕ) (charges : Charges) → SmallCharges charges
-    → ReadsBack true (badCapabilities version charges) (capsRequestBytes version charges) (capabilities-request version charges)
-caps-request-reads version charges f = reads-back true _ _ _ (caps-request-good version charges f)
+    → Good true (badCapabilities version charges) (capsRequestBytes version charges) (capabilities-request version charges)
+caps-request-good version charges f =
+    record { encodes = caps-request-encodes version charges f; is-tight = λ g. caps-request-tight version charges }
 
 -- ---- on the writers' own contracts
 
@@ -156,34 +179,34 @@ on-contract fromServer bad pdu v t out after r n e f g = rw (f, e) (t out n (sym
 pub close-back :
     (κs : _) (a : _) (r : _) (s : _) (n : ℕ) (fromServer : Bool) → close-contract.Post κs a r s → r ≡ Length n
     → a .1 .0 < NUMBERS → readAs fromServer (take n (now (s .0))) ≡ values (close (a .1 .0))
-close-back κs a r s n fromServer p g h = on-contract _ _ _ _ (close-reads fromServer (a .1 .0) h) _ _ r n (p .0) (p .1) g
+close-back κs a r s n fromServer p g h = on-contract _ _ _ _ (reads-back _ _ _ _ (close-good fromServer (a .1 .0) h)) _ _ r n (p .0) (p .1) g
 
 pub data-back :
     (κs : _) (a : _) (r : _) (s : _) (n : ℕ) (fromServer : Bool) → data-contract.Post κs a r s → r ≡ Length n
     → a .1 .0 < NUMBERS → readAs fromServer (take n (now (s .0))) ≡ values (data-block (a .1 .0) (now (a .1 .1 .0)))
-data-back κs a r s n fromServer p g h = on-contract _ _ _ _ (data-reads fromServer (a .1 .0) (now (a .1 .1 .0)) h) _ _ r n (p .0) (p .1) g
+data-back κs a r s n fromServer p g h = on-contract _ _ _ _ (reads-back _ _ _ _ (data-good fromServer (a .1 .0) (now (a .1 .1 .0)) h)) _ _ r n (p .0) (p .1) g
 
 pub data-first-back :
     (κs : _) (a : _) (r : _) (s : _) (n : ℕ) (fromServer : Bool) → data-first-contract.Post κs a r s → r ≡ Length n
     → a .1 .0 < NUMBERS → a .1 .1 .0 < NUMBERS → readAs fromServer (take n (now (s .0))) ≡ values (data-first (a .1 .0) (a .1 .1 .0) (now (a .1 .1 .1 .0)))
-data-first-back κs a r s n fromServer p g h k = on-contract _ _ _ _ (data-first-reads fromServer (a .1 .0) (a .1 .1 .0) (now (a .1 .1 .1 .0)) h k) _ _ r n (p .0) (p .1) g
+data-first-back κs a r s n fromServer p g h k = on-contract _ _ _ _ (reads-back _ _ _ _ (data-first-good fromServer (a .1 .0) (a .1 .1 .0) (now (a .1 .1 .1 .0)) h k)) _ _ r n (p .0) (p .1) g
 
 pub create-response-back :
     (κs : _) (a : _) (r : _) (s : _) (n : ℕ) → create-response-contract.Post κs a r s → r ≡ Length n
     → a .1 .0 < NUMBERS → SFits w32 (a .1 .1 .0) → readAs false (take n (now (s .0))) ≡ values (create-response (a .1 .0) (a .1 .1 .0))
-create-response-back κs a r s n p g h f = on-contract _ _ _ _ (create-response-reads (a .1 .0) (a .1 .1 .0) h f) _ _ r n (p .0) (p .1) g
+create-response-back κs a r s n p g h f = on-contract _ _ _ _ (reads-back _ _ _ _ (create-response-good (a .1 .0) (a .1 .1 .0) h f)) _ _ r n (p .0) (p .1) g
 
 pub create-request-back :
     (κs : _) (a : _) (r : _) (s : _) (n : ℕ) → create-request-contract.Post κs a r s → r ≡ Length n
     → a .1 .0 < NUMBERS → readAs true (take n (now (s .0))) ≡ values (create-request (a .1 .0) (a .1 .1 .0) (now (a .1 .1 .1 .0)))
-create-request-back κs a r s n p g h = on-contract _ _ _ _ (create-request-reads (a .1 .0) (a .1 .1 .0) (now (a .1 .1 .1 .0)) h) _ _ r n (p .0) (p .1) g
+create-request-back κs a r s n p g h = on-contract _ _ _ _ (reads-back _ _ _ _ (create-request-good (a .1 .0) (a .1 .1 .0) (now (a .1 .1 .1 .0)) h)) _ _ r n (p .0) (p .1) g
 
 pub caps-request-back :
     (κs : _) (a : _) (r : _) (s : _) (n : ℕ) → caps-request-contract.Post κs a r s → r ≡ Length n
     → SmallCharges (a .1 .1 .0) → readAs true (take n (now (s .0))) ≡ values (capabilities-request (a .1 .0) (a .1 .1 .0))
-caps-request-back κs a r s n p g f = on-contract _ _ _ _ (caps-request-reads (a .1 .0) (a .1 .1 .0) f) _ _ r n (p .0) (p .1) g
+caps-request-back κs a r s n p g f = on-contract _ _ _ _ (reads-back _ _ _ _ (caps-request-good (a .1 .0) (a .1 .1 .0) f)) _ _ r n (p .0) (p .1) g
 
 pub caps-response-back :
     (κs : _) (a : _) (r : _) (s : _) (n : ℕ) → caps-response-contract.Post κs a r s → r ≡ Length n
     → readAs false (take n (now (s .0))) ≡ values (capabilities-response (a .1 .0))
-caps-response-back κs a r s n p g = on-contract _ _ _ _ (caps-response-reads (a .1 .0)) _ _ r n (p .0) (p .1) g
+caps-response-back κs a r s n p g = on-contract _ _ _ _ (reads-back _ _ _ _ (caps-response-good (a .1 .0))) _ _ r n (p .0) (p .1) g

@@ -1,6 +1,8 @@
 -- `reading::after_number` meets its contract: by command and direction, each arm is its own stage.
+use mathlib.Core.Path.{sym}
 use Rattle.numbers.proofs.Widths.{width-le}
 use Rattle.reading.specs.Reading.{afterNumber}
+use Rattle.reading.proofs.Judged.{is-found, loose-request, loose-response, loose-first, loose-other}
 use Rattle.lists.proofs.Cases.{tests}
 use borrow.Author.Needs.{needs}
 use native.Mathlib.Omega.{arith}
@@ -9,26 +11,34 @@ use Rattle.reading.proofs.after_number.Tie as tie
 
 returns : tie.Need-returns
 unfolding afterNumber
-returns c = search (tests, c .before .if2 .taken, c .create-request .ensures)
+returns c =
+    is-found _ (rw (c .before .before .if1 .taken, c .before .if2 .taken) (c .create-request .ensures))
+    (rw (c .before .before .if1 .taken, c .before .if2 .taken) (sym (loose-request _ _ _ _)))
 
 returns-2 : tie.Need-returns-2
 unfolding afterNumber
-returns-2 c = search (tests, c .before .if2 .left, c .create-response .ensures)
+returns-2 c =
+    is-found _ (rw (c .before .before .if1 .taken, c .before .if2 .left) (c .create-response .ensures))
+    (rw (c .before .before .if1 .taken, c .before .if2 .left) (sym (loose-response _ _ _ _)))
 
 data-first-requires : tie.Need-data-first-requires
-data-first-requires c κs = omega (arith, c .width .ensures, width-le (c .before .before .before .before .args .middle))
+data-first-requires c κs = omega (arith, c .width .ensures, width-le (c .before .before .before .before .before .args .middle))
 
 returns-3 : tie.Need-returns-3
 unfolding afterNumber
-returns-3 c = search (tests, c .data-first .ensures, c .before .width .ensures)
+returns-3 c =
+    rw (c .before .before .if3 .taken)
+    (rw (loose-first _ _ _ _ _, ← (c .before .width .ensures)) (c .data-first .ensures))
 
 returns-4 : tie.Need-returns-4
 unfolding afterNumber
-returns-4 c = search tests
+returns-4 c = is-found _ (search tests) (sym (loose-other _ _ _ _ _ _ (c .before .before .if1 .left) (c .before .if3 .left)))
 
 returns-5 : tie.Need-returns-5
 unfolding afterNumber
-returns-5 c = search (tests, c .closing .ensures)
+returns-5 c =
+    is-found _ (search (tests, c .closing .ensures))
+    (sym (loose-other _ _ _ _ _ _ (c .before .before .before .if1 .left) (c .before .before .if3 .left)))
 
 pub after-number-spec : {M : Type 1} → statement M
 after-number-spec =

@@ -6,7 +6,7 @@ use denote.Ref.{now}
 use lib.ListN.{take}
 use lib.Seq.{length-take-le}
 use Rattle.lists.proofs.Laid.{take-least}
-use Rattle.said.proofs.Laws.{compared}
+use Rattle.listeners.proofs.Matches.{compared}
 use borrow.Author.Needs.{needs}
 use Rattle.said.proofs.same.Statement.{statement}
 use Rattle.said.proofs.same.Tie as tie

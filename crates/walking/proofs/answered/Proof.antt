@@ -49,7 +49,7 @@ returns c =
     let read = closed .before .before .before in
     let asked = read .before .before in
     let a = asked .before .before .before .before .before .args in
-    let yes : isClose (a .job) (now (a .bytes)) ≡ true = sym (asked .before .is-close .ensures) ∙ asked .if1 .taken in
+    let yes : isClose (a .told) (now (a .bytes)) ≡ true = sym (asked .before .is-close .ensures) ∙ asked .if1 .taken in
     let number = read .number .ensures ∙ ap valueOf (to-end (now (a .bytes)) 1) in
     let did = rw number at (closed .local-close .ensures) in
     rw yes (did .0, did .1 .0)
@@ -69,7 +69,7 @@ returns-2 c =
     let got = c .before .before .before in
     let asked = got .before .before .before in
     let a = asked .before .before .before .before .before .args in
-    let no : isClose (a .job) (now (a .bytes)) ≡ false = sym (asked .before .is-close .ensures) ∙ asked .if1 .left in
+    let no : isClose (a .told) (now (a .bytes)) ≡ false = sym (asked .before .is-close .ensures) ∙ asked .if1 .left in
     rw no (got .receive .ensures .0, got .receive .ensures .1 .0)
 
 pub answered-spec : {M : Type 1} → statement M

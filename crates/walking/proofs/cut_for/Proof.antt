@@ -1,56 +1,20 @@
 -- `walking::cut_for` meets its contract: each arm is a case of the definition.
-use mathlib.Core.Path.{refl}
-use Rattle.lists.specs.Bytes.{laid}
 use Rattle.walking.specs.Walking.{cutFor}
 use borrow.Author.Needs.{needs}
-use native.Mathlib.Omega.{arith}
 use Rattle.walking.proofs.cut_for.Statement.{statement}
 use Rattle.walking.proofs.cut_for.Tie as tie
 
-enum-told : tie.Need-enum-told
-enum-told c = search needs
-
-cut-line-requires : tie.Need-cut-line-requires
-cut-line-requires c κs = search needs
-
-enum-told-2 : tie.Need-enum-told-2
-enum-told-2 c = search needs
-
-enum-told-3 : tie.Need-enum-told-3
-enum-told-3 c = search needs
-
-cut-line-requires-2 : tie.Need-cut-line-requires-2
-cut-line-requires-2 c κs = search needs
-
-same-length : tie.Need-same-length
-same-length c = search needs
-
 returns : tie.Need-returns
 unfolding cutFor
-returns c = rw (c .before .before .before .before .enum-told .given .1) (c .before .before .cut-line .ensures)
+returns c = rw (c .before .before .before .before .before .job .given .1) (c .before .before .cut-told .ensures)
 
 returns-2 : tie.Need-returns-2
-unfolding cutFor laid
-returns-2 c = rw (c .enum-told2 .given .1) ((refl, omega arith), refl)
-
-same-length-2 : tie.Need-same-length-2
-same-length-2 c = search needs
-
-returns-3 : tie.Need-returns-3
 unfolding cutFor
-returns-3 c = rw (c .before .before .before .before .enum-told3 .given .1) (c .before .before .cut-line2 .ensures)
+returns-2 c = rw (c .before .before .before .before .enum-told .given .1) (c .before .before .cut-line .ensures)
 
 pub cut-for-spec : {M : Type 1} → statement M
 cut-for-spec =
     tie.close
     (tie.spec
-    enum-told
-    cut-line-requires
-    enum-told-2
-    enum-told-3
-    cut-line-requires-2
-    same-length
-    returns
-    returns-2
-    same-length-2
-    returns-3)
+    (λ c. search needs) (λ c κs. search needs) (λ c. search needs) (λ c κs. search needs) (λ c. search needs) returns
+    (λ c. search needs) returns-2)

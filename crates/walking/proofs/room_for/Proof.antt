@@ -1,31 +1,16 @@
 -- `walking::room_for` meets its contract: each arm is a case of the definition.
-use Rattle.lines.specs.Lines.{LINE-MAX, MESSAGE-LINE-MAX}
-use Rattle.paper.specs.Sizes.{MESSAGE-MAX}
 use Rattle.walking.specs.Walking.{roomFor}
 use borrow.Author.Needs.{needs}
 use Rattle.walking.proofs.room_for.Statement.{statement}
 use Rattle.walking.proofs.room_for.Tie as tie
 
-enum-told : tie.Need-enum-told
-enum-told c = search needs
-
-enum-told-2 : tie.Need-enum-told-2
-enum-told-2 c = search needs
-
-enum-told-3 : tie.Need-enum-told-3
-enum-told-3 c = search needs
-
 returns : tie.Need-returns
 unfolding roomFor
-returns c = rw (c .enum-told .given .1)
+returns c = rw (c .before .before .job .given .1) (c .room-told .ensures)
 
 returns-2 : tie.Need-returns-2
-unfolding roomFor MESSAGE-LINE-MAX MESSAGE-MAX
-returns-2 c = rw (c .enum-told2 .given .1)
-
-returns-3 : tie.Need-returns-3
 unfolding roomFor
-returns-3 c = rw (c .enum-told3 .given .1)
+returns-2 c = rw (c .enum-told .given .1)
 
 pub room-for-spec : {M : Type 1} → statement M
-room-for-spec = tie.close (tie.spec enum-told enum-told-2 enum-told-3 returns returns-2 returns-3)
+room-for-spec = tie.close (tie.spec (λ c. search needs) (λ c κs. search needs) (λ c. search needs) returns returns-2)

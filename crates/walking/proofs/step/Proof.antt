@@ -1,46 +1,21 @@
--- `walking::step` meets its contract: what the client's step gives goes into the text.
-use Rattle.walking.specs.Walking.{afterRecord, program}
-use Rattle.walking.proofs.Records.{beside}
+-- `walking::step` meets its contract: by its job, a record is the client's or is only read.
 use borrow.Author.Needs.{needs}
 use Rattle.walking.proofs.step.Statement.{statement}
 use Rattle.walking.proofs.step.Tie as tie
 
-answered-requires : tie.Need-answered-requires
-answered-requires c κs = search needs
-
-text-for-requires : tie.Need-text-for-requires
-text-for-requires c κs = rw (c .before .before .before .before .answered .ensures .0) (beside _ _ _ _)
-
-wrapping-add-u64-requires : tie.Need-wrapping-add-u64-requires
-wrapping-add-u64-requires c κs = search needs
-
-same-length : tie.Need-same-length
-same-length c = search needs
-
-same-length-2 : tie.Need-same-length-2
-same-length-2 c = search needs
-
 returns : tie.Need-returns
-unfolding program afterRecord
 returns c =
-    let told = c .before .before .before .before in
-    let got = told .before .before .before .before .before .answered .ensures in
-    let text = rw (got .0, got .1) at (told .text-for .ensures) in
-    record {
-      kept = rw (got .0, c .wrapping-add-u64 .ensures);
-      length-laid = text .0 .0;
-      fits = text .0 .1;
-      stored = got .1;
-      lines = text .1;
-    }
+    let done = c .before .before .before .before in
+    rw (done .before .before .before .before .job .given .1) (done .step-told .ensures)
+
+returns-2 : tie.Need-returns-2
+returns-2 c =
+    let done = c .before .before in
+    rw (done .before .before .before .job2 .given .1) (done .step-read .ensures _ _)
 
 pub step-spec : {M : Type 1} → statement M
 step-spec =
     tie.close
     (tie.spec
-    answered-requires
-    text-for-requires
-    wrapping-add-u64-requires
-    same-length
-    same-length-2
-    returns)
+    (λ c. search needs) (λ c κs. search needs) (λ c. search needs) (λ c κs. search needs) (λ c. search needs)
+    (λ c. search needs) returns (λ c. search needs) returns-2)

@@ -3,7 +3,7 @@ use mathlib.Core.Path.{_≡_}
 use lib.ListN.{length}
 use Rattle.paper.specs.Sizes.{PARTS}
 use Rattle.lists.proofs.Arrays.{length-mapped}
-use Rattle.walking.specs.Walking.{placeIn, textFor, roomFor}
+use Rattle.walking.specs.Walking.{placeIn, textFor, roomTold}
 use Rattle.walking.proofs.Records.{at-most}
 use borrow.Author.Needs.{needs}
 use Rattle.walking.proofs.text_for.Statement.{statement}
@@ -35,21 +35,21 @@ same-length : tie.Need-same-length
 same-length c = search needs
 
 returns : tie.Need-returns
-unfolding textFor roomFor
+unfolding textFor roomTold
 returns c = rw (c .before .before .before .before .enum-told .given .1) (c .before .before .line .ensures)
 
 same-length-2 : tie.Need-same-length-2
 same-length-2 c = search needs
 
 returns-2 : tie.Need-returns-2
-unfolding textFor roomFor
+unfolding textFor roomTold
 returns-2 c = rw (c .before .before .before .before .enum-told2 .given .1) (c .before .before .message-text .ensures)
 
 same-length-3 : tie.Need-same-length-3
 same-length-3 c = search needs
 
 returns-3 : tie.Need-returns-3
-unfolding textFor roomFor
+unfolding textFor roomTold
 returns-3 c = rw (c .before .before .before .before .enum-told3 .given .1) (c .before .before .line2 .ensures)
 
 pub text-for-spec : {M : Type 1} → statement M
