@@ -58,6 +58,7 @@ bad-input-gets-its-number =
       receive = refusals.receive-outcome;
       local-close = refusals.local-close-outcome;
       reading = layouts.reading-refusals;
+      strict-reading = strict.strict-refusals;
       writing = writing.writing-refusals;
       cutting = cutting.cutting-refusals;
     }

@@ -11,6 +11,7 @@ use Rattle.paper.specs.declared.Refusal.{Refusal}
 use Rattle.reading.specs.Reading.{readPdu}
 use Rattle.reading.specs.Said.{verdictOn}
 use Rattle.reading.specs.Layouts.{readingRows}
+use Rattle.reading.specs.Strict.{readStrict, strictRows}
 use Rattle.laying.specs.Laying.{bufferAfter}
 use Rattle.writing.specs.Writing as writing
 use Rattle.writing.specs.declared.Written.the-variants.{Refused as NotWritten}
@@ -64,6 +65,9 @@ pub record BadInputGetsItsNumber : Type 0 where
       ≡ comesTo (locallyClosed t store n reply .result .answer) (firstHeld (closeRows t store n reply))
   pub reading :
       (fromServer : Bool) (pdu : List ℕ) → verdictOn (readPdu fromServer pdu) ≡ firstHeld (readingRows fromServer pdu)
+  -- strict reading: 18 behind the rows of reading
+  pub strict-reading :
+      (fromServer : Bool) (pdu : List ℕ) → verdictOn (readStrict fromServer pdu) ≡ firstHeld (strictRows fromServer pdu)
   pub writing :
       (bad : Bool) (pdu out : List ℕ)
       → writing.outcome (writing.written bad pdu out)

@@ -85,7 +85,8 @@ module _ (number : ℕ) (small : number < NUMBERS) where
 
   pub data-encoded : (fromServer : Bool) (block : List ℕ) → Encodes fromServer (data-block number block) (dataBytes number block)
   unfolding tight
-  data-encoded fromServer block = data-is fromServer (codeFor number) 0 number block (in-narrowest number small) (omega arith) (data-tight number block)
+  data-encoded fromServer block =
+      data-is fromServer (codeFor number) 0 number block (in-narrowest number small) (omega arith) (data-tight number block)
 
   pub data-first-encoded :
       (fromServer : Bool) (len : ℕ) (block : List ℕ) → len < NUMBERS
@@ -99,7 +100,8 @@ module _ (number : ℕ) (small : number < NUMBERS) where
       (status : ℤ) → SFits w32 status → Encodes false (create-response number status) (createResponseBytes number status)
   unfolding tight
   create-response-encoded status fits =
-      create-response-is (codeFor number) 0 number status (in-narrowest number small) (omega arith) fits (create-response-tight number status)
+      create-response-is (codeFor number) 0 number status (in-narrowest number small) (omega arith) fits
+      (create-response-tight number status)
 
   pub create-request-encoded :
       (class : ℕ) (name : List ℕ) → class ≤ 3 → NoZero name

@@ -11,7 +11,8 @@ use lib.Dec.{lit<, lit≤, ltb, eqb}
 use lib.ListN.{length, take, drop, getD, length-take, drop-of-length-le}
 use lib.Seq.{take-all, take-at, drop-at, take-nil, drop-nil, getD-drop}
 use Rattle.lists.proofs.Cases.{lt-or-le, choice}
-use Rattle.numbers.specs.Numbers.{Bytes, NUMBERS, little, bytesOf, valueOf, valueAt, widthOf, codeFor, narrowest, narrowBytes, wide, wideAt}
+use Rattle.numbers.specs.Numbers.{Bytes, NUMBERS, little, bytesOf, valueOf, valueAt, widthOf, codeFor, narrowest}
+use Rattle.numbers.specs.Numbers.{narrowBytes, wide, wideAt}
 
 -- ---- lengths and bounds
 

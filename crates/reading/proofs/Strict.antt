@@ -4,13 +4,14 @@
 use Prim.Native.Nat.{ℕ, _≤_}
 use mathlib.Core.Path.{_≡_, refl, sym, ap, subst, _∙_}
 use mathlib.Core.Bool.{Bool, true, false, cond, _&&_}
-use mathlib.Core.List.{List, [], _∷_}
+use mathlib.Core.List.{List, [], _∷_, _++_}
 use mathlib.Core.Logic.{_⊎_, inl, inr, ⊎-elim}
 use lib.Dec.{eqb}
 use lib.IntN.{ℤ, pos, negsuc}
 use lib.ListN.{length, getD}
 use native.Mathlib.Omega.{arith}
-use Rattle.paper.specs.Rows.{refuse}
+use Rattle.paper.specs.Rows.{refuse, Verdict, fine, refusedWith, row, firstHeld}
+use Rattle.paper.proofs.Rows.{held, passed, none-held, held-before, held-behind}
 use Rattle.paper.specs.Sizes.{PDU-MAX}
 use Rattle.paper.specs.Commands.{CREATE, DATA-FIRST, DATA, CLOSE, CAPABILITIES}
 use Rattle.paper.specs.declared.Refusal.{Refusal}
@@ -21,8 +22,9 @@ use Rattle.reading.specs.declared.Pdu.{Pdu}
 use Rattle.reading.specs.declared.Pdu.the-variants.{CreateRequest, CreateResponse, DataFirst, Data, Close}
 use Rattle.reading.specs.declared.Pdu.the-variants.{CapsRequest, CapsResponse, Refused}
 use Rattle.reading.specs.Reading.{readPdu}
-use Rattle.reading.specs.Said.{Said, row, refusal, said, bytesAt}
-use Rattle.reading.specs.Strict.{loose, accepted, strictly, readStrict}
+use Rattle.reading.specs.Said.{Said, row as said-row, refusal, said, bytesAt, verdictOn}
+use Rattle.reading.specs.Strict.{loose, accepted, strictly, readStrict, strictRows}
+use Rattle.reading.specs.Layouts.{readingRows}
 use Rattle.reading.specs.Grammar.{Value, create-request, create-response, data-first, data-block, close}
 use Rattle.reading.specs.Grammar.{capabilities-request, capabilities-response, values, meant, readAs}
 use Rattle.reading.specs.Grammar.{Encodes, create-request-is, create-response-is, data-first-is, data-is, close-is}
@@ -30,6 +32,7 @@ use Rattle.reading.specs.Grammar.{capabilities-1-is, capabilities-is, ca
 use Rattle.reading.specs.Tight.{strictAs, tight, Tightly, TightExactly, Loosely, LooseExactly}
 use Rattle.reading.proofs.Placed.{Placed, placed}
 use Rattle.reading.proofs.Grammar.{every-encoding, exactly}
+use Rattle.reading.proofs.Layouts.{reading-refusals}
 use Rattle.reading.proofs.Tight.{looseIn, loose-is, is-loose, loose-if, is-tight, tight-if}
 
 -- ---- beside plain reading
@@ -39,8 +42,8 @@ module _ (fromServer : Bool) (bytes : List ℕ) where
   pub only-18 : (readStrict fromServer bytes ≡ readPdu fromServer bytes) ⊎ (readStrict fromServer bytes ≡ Refused Loose)
   unfolding readStrict strictly
   only-18 =
-      choice (λ (x : Pdu). (x ≡ readPdu fromServer bytes) ⊎ (x ≡ Refused Loose)) (accepted (readPdu fromServer bytes) && loose fromServer bytes)
-      (λ e. inr refl) (λ e. inl refl)
+      choice (λ (x : Pdu). (x ≡ readPdu fromServer bytes) ⊎ (x ≡ Refused Loose))
+      (accepted (readPdu fromServer bytes) && loose fromServer bytes) (λ e. inr refl) (λ e. inl refl)
 
   -- what it accepts plain reading answers so too
   pub same-answer : accepted (readStrict fromServer bytes) ≡ true → readStrict fromServer bytes ≡ readPdu fromServer bytes
@@ -52,6 +55,19 @@ module _ (fromServer : Bool) (bytes : List ℕ) where
   pub keeps-refusals : (why : Refusal) → readPdu fromServer bytes ≡ Refused why → readStrict fromServer bytes ≡ Refused why
   unfolding readStrict strictly
   keeps-refusals why h = rw h
+
+-- the refusal is the first row that holds, 18 behind all others
+pub strict-refusals : (fromServer : Bool) (pdu : List ℕ) → verdictOn (readStrict fromServer pdu) ≡ firstHeld (strictRows fromServer pdu)
+unfolding readStrict strictly strictRows
+strict-refusals fromServer pdu = go (verdictOn (readPdu fromServer pdu)) refl (loose fromServer pdu)
+  where
+    go : (v : Verdict) → verdictOn (readPdu fromServer pdu) ≡ v → (t : Bool)
+        → verdictOn (refuse (Refused Loose) (accepted (readPdu fromServer pdu) && t) (readPdu fromServer pdu))
+        ≡ firstHeld (readingRows fromServer pdu ++ (row Loose t ∷ []))
+    go (refusedWith why) e t = rw e (e ∙ sym (held-before _ _ why (sym (reading-refusals fromServer pdu) ∙ e)))
+    go fine e true = rw e (held Loose true [] refl ∙ sym (held-behind _ _ (sym (reading-refusals fromServer pdu) ∙ e)))
+    go fine e false =
+        rw e (e ∙ passed Loose false [] fine refl none-held ∙ sym (held-behind _ _ (sym (reading-refusals fromServer pdu) ∙ e)))
 
 -- ---- an answer and its values
 
@@ -122,7 +138,8 @@ module _ (fromServer : Bool) (bytes : List ℕ) (b : Bytes bytes) where
       let found = is-18 h in
       let v = valued bytes (readPdu fromServer bytes) (found .0) in
       let e = exactly fromServer (v .value) bytes b .only-encodings (v .is) in
-      record { value = v .value; encodes = e .0; is-loose = is-loose (e .0) (sym (loose-is fromServer (v .value) bytes (e .0)) ∙ found .1); short = e .1 }
+      let here = sym (loose-is fromServer (v .value) bytes (e .0)) ∙ found .1 in
+      record { value = v .value; encodes = e .0; is-loose = is-loose (e .0) here; short = e .1 }
 
 pub every-tight : (fromServer : Bool) (v : Value) (bytes : List ℕ) → Tightly fromServer v bytes → strictAs fromServer bytes ≡ values v
 unfolding strictAs readAs
@@ -144,14 +161,14 @@ loose-exactly fromServer bytes b =
 
 -- what is said of values
 abbrev saying : Value → Said
-saying (create-request number pri name) = row CREATE (pos number ∷ pos pri ∷ []) name
-saying (create-response number status) = row CREATE (pos number ∷ status ∷ []) []
-saying (data-first number len block) = row DATA-FIRST (pos number ∷ pos len ∷ []) block
-saying (data-block number block) = row DATA (pos number ∷ []) block
-saying (close number) = row CLOSE (pos number ∷ []) []
+saying (create-request number pri name) = said-row CREATE (pos number ∷ pos pri ∷ []) name
+saying (create-response number status) = said-row CREATE (pos number ∷ status ∷ []) []
+saying (data-first number len block) = said-row DATA-FIRST (pos number ∷ pos len ∷ []) block
+saying (data-block number block) = said-row DATA (pos number ∷ []) block
+saying (close number) = said-row CLOSE (pos number ∷ []) []
 saying (capabilities-request version c) =
-    row CAPABILITIES (pos version ∷ pos (c .class0) ∷ pos (c .class1) ∷ pos (c .class2) ∷ pos (c .class3) ∷ []) []
-saying (capabilities-response version) = row CAPABILITIES (pos version ∷ []) []
+    said-row CAPABILITIES (pos version ∷ pos (c .class0) ∷ pos (c .class1) ∷ pos (c .class2) ∷ pos (c .class3) ∷ []) []
+saying (capabilities-response version) = said-row CAPABILITIES (pos version ∷ []) []
 
 said-so : (bytes : List ℕ) (p : Pdu) (v : Value) → meant bytes p ≡ values v → said bytes p ≡ saying v
 unfolding said
@@ -174,14 +191,16 @@ numberIn numbers i = natural (getD numbers i (pos 0))
 
 -- the one byte string of what is said, by direction
 abbrev tightOf : Bool → Said → List ℕ
-tightOf fromServer (row cmd ns bytes) =
+tightOf fromServer (said-row cmd ns bytes) =
     cond (eqb cmd CREATE)
-    (cond fromServer (tight (create-request (numberIn ns 0) (numberIn ns 1) bytes)) (tight (create-response (numberIn ns 0) (getD ns 1 (pos 0)))))
+    (cond fromServer (tight (create-request (numberIn ns 0) (numberIn ns 1) bytes))
+    (tight (create-response (numberIn ns 0) (getD ns 1 (pos 0)))))
     (cond (eqb cmd DATA-FIRST) (tight (data-first (numberIn ns 0) (numberIn ns 1) bytes))
     (cond (eqb cmd DATA) (tight (data-block (numberIn ns 0) bytes))
     (cond (eqb cmd CLOSE) (tight (close (numberIn ns 0)))
     (cond fromServer
-    (tight (capabilities-request (numberIn ns 0) (record { class0 = numberIn ns 1; class1 = numberIn ns 2; class2 = numberIn ns 3; class3 = numberIn ns 4 })))
+    (tight (capabilities-request (numberIn ns 0)
+    (record { class0 = numberIn ns 1; class1 = numberIn ns 2; class2 = numberIn ns 3; class3 = numberIn ns 4 })))
     (tight (capabilities-response (numberIn ns 0)))))))
 tightOf fromServer (refusal n) = []
 
@@ -202,7 +221,8 @@ unfolding strictAs
 from-said fromServer bytes b h =
     let v = valued bytes (readStrict fromServer bytes) h in
     let t = only-tight fromServer bytes b (v .value) (v .is) in
-    t .is-tight ∙ sym (tight-said (t .encodes)) ∙ ap (tightOf fromServer) (sym (said-so bytes (readStrict fromServer bytes) (v .value) (v .is)))
+    t .is-tight ∙ sym (tight-said (t .encodes))
+    ∙ ap (tightOf fromServer) (sym (said-so bytes (readStrict fromServer bytes) (v .value) (v .is)))
 
 pub one-meaning : (fromServer : Bool) (one two : List ℕ) → Bytes one → Bytes two
     → accepted (readStrict fromServer one) ≡ true → accepted (readStrict fromServer two) ≡ true

@@ -73,12 +73,15 @@ loose-is fromServer v bytes (create-response-is code sp number status k p z e) =
 loose-is fromServer v bytes (data-first-is dir code lengthCode number len block k q e) =
     let g = q .good in
     rw e (carried dir code DATA-FIRST lengthCode number _ k (omega arith) (omega arith) (omega arith) ∙ loose-first _ _ _ _ dir
-    ∙ ap (λ (b : Bool). wider code number || b) (wide-in (headIn code DATA-FIRST lengthCode number) block (widthOf lengthCode) len (1 + widthOf code)
+    ∙ ap (λ (b : Bool). wider code number || b)
+    (wide-in (headIn code DATA-FIRST lengthCode number) block (widthOf lengthCode) len (1 + widthOf code)
     (length-head-in code DATA-FIRST lengthCode number) (width-le lengthCode) (q .holds)))
 loose-is fromServer v bytes (data-is dir code sp number block k p e) =
-    rw e (carried dir code DATA sp number _ k p (omega arith) (omega arith) ∙ loose-other _ _ _ _ dir DATA (λ h. omega arith) (λ h. omega arith))
+    rw e (carried dir code DATA sp number _ k p (omega arith) (omega arith)
+    ∙ loose-other _ _ _ _ dir DATA (λ h. omega arith) (λ h. omega arith))
 loose-is fromServer v bytes (close-is dir code sp number k p e) =
-    rw e (carried dir code CLOSE sp number _ k p (omega arith) (omega arith) ∙ loose-other _ _ _ _ dir CLOSE (λ h. omega arith) (λ h. omega arith))
+    rw e (carried dir code CLOSE sp number _ k p (omega arith) (omega arith)
+    ∙ loose-other _ _ _ _ dir CLOSE (λ h. omega arith) (λ h. omega arith))
 loose-is fromServer v bytes (capabilities-1-is sp p e) = rw e (capable true sp 1 _ p)
 loose-is fromServer v bytes (capabilities-is sp version charges p h k z e) = rw e (capable true sp version _ p)
 loose-is fromServer v bytes (capabilities-response-is sp version p h k e) = rw e (capable false sp version _ p)
@@ -182,6 +185,9 @@ same-first p q = ap (λ (l : List ℕ). getD l 0 0) (sym p ∙ q)
 same-codes : (cmd middle code m c : ℕ) → code ≤ 2 → c ≤ 2 → firstByte cmd middle code ≡ firstByte cmd m c → (middle ≡ m) × (code ≡ c)
 same-codes cmd middle code m c h k e = (omega arith, omega arith)
 
+clear-capabilities : (sp : ℕ) → firstByte CAPABILITIES sp 0 ≡ firstByte CAPABILITIES 0 0 → set sp ≡ false
+clear-capabilities sp e = clear-is sp (same-codes CAPABILITIES sp 0 0 0 (omega arith) (omega arith) e .0)
+
 pub tight-if : {fromServer : Bool} {v : Value} {bytes : List ℕ} (e : Encodes fromServer v bytes) → bytes ≡ tight v → looseIn e ≡ false
 unfolding tight
 tight-if (create-request-is code number pri name k p z e) t =
@@ -198,6 +204,6 @@ tight-if (data-is dir code sp number block k p e) t =
 tight-if (close-is dir code sp number k p e) t =
     let same = same-codes CLOSE sp code 0 _ (k .good) (code-le number) (same-first e t) in
     rw (narrow-is code number (same .1)) (clear-is sp (same .0))
-tight-if (capabilities-1-is sp p e) t = clear-is sp (same-codes CAPABILITIES sp 0 0 0 (omega arith) (omega arith) (same-first e t) .0)
-tight-if (capabilities-is sp version charges p h k z e) t = clear-is sp (same-codes CAPABILITIES sp 0 0 0 (omega arith) (omega arith) (same-first e t) .0)
-tight-if (capabilities-response-is sp version p h k e) t = clear-is sp (same-codes CAPABILITIES sp 0 0 0 (omega arith) (omega arith) (same-first e t) .0)
+tight-if (capabilities-1-is sp p e) t = clear-capabilities sp (same-first e t)
+tight-if (capabilities-is sp version charges p h k z e) t = clear-capabilities sp (same-first e t)
+tight-if (capabilities-response-is sp version p h k e) t = clear-capabilities sp (same-first e t)

@@ -1,6 +1,6 @@
 pub mod Reading
-pub mod Strict
 pub mod Said
 pub mod Grammar
-pub mod Tight
 pub mod Layouts
+pub mod Strict
+pub mod Tight

@@ -3,15 +3,16 @@
 -- A CreationStatus, a Version and the charges have one width.
 use Prim.Native.Nat.{ℕ, _+_, _/_, _%_}
 use mathlib.Core.Bool.{Bool, cond, not, _&&_, _||_}
-use mathlib.Core.List.{List}
+use mathlib.Core.List.{List, [], _∷_, _++_}
 use lib.Dec.{eqb}
 use lib.ListN.{getD}
-use Rattle.paper.specs.Rows.{refuse, isFine, verdictNumber}
+use Rattle.paper.specs.Rows.{refuse, isFine, verdictNumber, Row, row}
 use Rattle.paper.specs.Commands.{CREATE, DATA-FIRST, CAPABILITIES}
 use Rattle.paper.specs.declared.Refusal.the-variants.{Loose}
 use Rattle.numbers.specs.Numbers.{wideAt, widthOf}
 use Rattle.reading.specs.Reading.{readPdu}
 use Rattle.reading.specs.Said.{verdictOn}
+use Rattle.reading.specs.Layouts.{readingRows}
 use Rattle.reading.specs.declared.Found.{Found}
 use Rattle.reading.specs.declared.Pdu.{Pdu}
 use Rattle.reading.specs.declared.Pdu.the-variants.{Refused}
@@ -55,6 +56,10 @@ strictly loose answer = refuse (Refused Loose) (accepted answer && loose) answer
 
 unfoldable pub readStrict : Bool → List ℕ → Pdu
 readStrict fromServer pdu = strictly (loose fromServer pdu) (readPdu fromServer pdu)
+
+-- the refusals as rows: those of reading, and 18 behind them
+unfoldable pub strictRows : Bool → List ℕ → List Row
+strictRows fromServer pdu = readingRows fromServer pdu ++ (row Loose (loose fromServer pdu) ∷ [])
 
 -- for a host in C: who sent the PDU is "0 for [..] the client, anything else [..] the server", and the answer "0 accepted, else
 -- the refusal number"

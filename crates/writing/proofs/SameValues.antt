@@ -87,7 +87,8 @@ pub strict-back : (fromServer bad : Bool) (pdu : List ℕ) (v : Value) → Good 
 strict-back fromServer bad pdu v laid-so out n g =
     let w = went bad pdu out _ _ n refl refl g in
     ap (strictAs fromServer) (w .stands)
-    ∙ every-tight fromServer v pdu (record { encodes = laid-so .encodes (w .good); is-tight = laid-so .is-tight (w .good); short = w .short-enough })
+    ∙ every-tight fromServer v pdu
+    (record { encodes = laid-so .encodes (w .good); is-tight = laid-so .is-tight (w .good); short = w .short-enough })
 
 -- ---- each kind
 
@@ -121,9 +122,11 @@ create-request-good number class name h =
     record {
       encodes =
           λ g. let p = neither (ltb 3 class) (ltb (place isZero name) (length name)) g in
-          create-request-encoded number h class name (ltb-false 3 class (p .0)) (zero-free name (ltb-false (place isZero name) (length name) (p .1)));
+          create-request-encoded number h class name (ltb-false 3 class (p .0))
+          (zero-free name (ltb-false (place isZero name) (length name) (p .1)));
       is-tight =
-          λ g. create-request-tight number class name (ltb-false 3 class (neither (ltb 3 class) (ltb (place isZero name) (length name)) g .0));
+          λ g. let p = neither (ltb 3 class) (ltb (place isZero name) (length name)) g in
+          create-request-tight number class name (ltb-false 3 class (p .0));
     }
 
 pub caps-response-good : (version : ℕ) → Good false (badVersion version) (capsResponseBytes version) (capabilities-response version)
@@ -179,34 +182,42 @@ on-contract fromServer bad pdu v t out after r n e f g = rw (f, e) (t out n (sym
 pub close-back :
     (κs : _) (a : _) (r : _) (s : _) (n : ℕ) (fromServer : Bool) → close-contract.Post κs a r s → r ≡ Length n
     → a .1 .0 < NUMBERS → readAs fromServer (take n (now (s .0))) ≡ values (close (a .1 .0))
-close-back κs a r s n fromServer p g h = on-contract _ _ _ _ (reads-back _ _ _ _ (close-good fromServer (a .1 .0) h)) _ _ r n (p .0) (p .1) g
+close-back κs a r s n fromServer p g h =
+    on-contract _ _ _ _ (reads-back _ _ _ _ (close-good fromServer (a .1 .0) h)) _ _ r n (p .0) (p .1) g
 
 pub data-back :
     (κs : _) (a : _) (r : _) (s : _) (n : ℕ) (fromServer : Bool) → data-contract.Post κs a r s → r ≡ Length n
     → a .1 .0 < NUMBERS → readAs fromServer (take n (now (s .0))) ≡ values (data-block (a .1 .0) (now (a .1 .1 .0)))
-data-back κs a r s n fromServer p g h = on-contract _ _ _ _ (reads-back _ _ _ _ (data-good fromServer (a .1 .0) (now (a .1 .1 .0)) h)) _ _ r n (p .0) (p .1) g
+data-back κs a r s n fromServer p g h =
+    on-contract _ _ _ _ (reads-back _ _ _ _ (data-good fromServer (a .1 .0) (now (a .1 .1 .0)) h)) _ _ r n (p .0) (p .1) g
 
 pub data-first-back :
     (κs : _) (a : _) (r : _) (s : _) (n : ℕ) (fromServer : Bool) → data-first-contract.Post κs a r s → r ≡ Length n
-    → a .1 .0 < NUMBERS → a .1 .1 .0 < NUMBERS → readAs fromServer (take n (now (s .0))) ≡ values (data-first (a .1 .0) (a .1 .1 .0) (now (a .1 .1 .1 .0)))
-data-first-back κs a r s n fromServer p g h k = on-contract _ _ _ _ (reads-back _ _ _ _ (data-first-good fromServer (a .1 .0) (a .1 .1 .0) (now (a .1 .1 .1 .0)) h k)) _ _ r n (p .0) (p .1) g
+    → a .1 .0 < NUMBERS → a .1 .1 .0 < NUMBERS
+    → readAs fromServer (take n (now (s .0))) ≡ values (data-first (a .1 .0) (a .1 .1 .0) (now (a .1 .1 .1 .0)))
+data-first-back κs a r s n fromServer p g h k =
+    on-contract _ _ _ _ (reads-back _ _ _ _ (data-first-good fromServer (a .1 .0) (a .1 .1 .0) (now (a .1 .1 .1 .0)) h k)) _ _ r n (p .0) (p .1) g
 
 pub create-response-back :
     (κs : _) (a : _) (r : _) (s : _) (n : ℕ) → create-response-contract.Post κs a r s → r ≡ Length n
     → a .1 .0 < NUMBERS → SFits w32 (a .1 .1 .0) → readAs false (take n (now (s .0))) ≡ values (create-response (a .1 .0) (a .1 .1 .0))
-create-response-back κs a r s n p g h f = on-contract _ _ _ _ (reads-back _ _ _ _ (create-response-good (a .1 .0) (a .1 .1 .0) h f)) _ _ r n (p .0) (p .1) g
+create-response-back κs a r s n p g h f =
+    on-contract _ _ _ _ (reads-back _ _ _ _ (create-response-good (a .1 .0) (a .1 .1 .0) h f)) _ _ r n (p .0) (p .1) g
 
 pub create-request-back :
     (κs : _) (a : _) (r : _) (s : _) (n : ℕ) → create-request-contract.Post κs a r s → r ≡ Length n
     → a .1 .0 < NUMBERS → readAs true (take n (now (s .0))) ≡ values (create-request (a .1 .0) (a .1 .1 .0) (now (a .1 .1 .1 .0)))
-create-request-back κs a r s n p g h = on-contract _ _ _ _ (reads-back _ _ _ _ (create-request-good (a .1 .0) (a .1 .1 .0) (now (a .1 .1 .1 .0)) h)) _ _ r n (p .0) (p .1) g
+create-request-back κs a r s n p g h =
+    on-contract _ _ _ _ (reads-back _ _ _ _ (create-request-good (a .1 .0) (a .1 .1 .0) (now (a .1 .1 .1 .0)) h)) _ _ r n (p .0) (p .1) g
 
 pub caps-request-back :
     (κs : _) (a : _) (r : _) (s : _) (n : ℕ) → caps-request-contract.Post κs a r s → r ≡ Length n
     → SmallCharges (a .1 .1 .0) → readAs true (take n (now (s .0))) ≡ values (capabilities-request (a .1 .0) (a .1 .1 .0))
-caps-request-back κs a r s n p g f = on-contract _ _ _ _ (reads-back _ _ _ _ (caps-request-good (a .1 .0) (a .1 .1 .0) f)) _ _ r n (p .0) (p .1) g
+caps-request-back κs a r s n p g f =
+    on-contract _ _ _ _ (reads-back _ _ _ _ (caps-request-good (a .1 .0) (a .1 .1 .0) f)) _ _ r n (p .0) (p .1) g
 
 pub caps-response-back :
     (κs : _) (a : _) (r : _) (s : _) (n : ℕ) → caps-response-contract.Post κs a r s → r ≡ Length n
     → readAs false (take n (now (s .0))) ≡ values (capabilities-response (a .1 .0))
-caps-response-back κs a r s n p g = on-contract _ _ _ _ (reads-back _ _ _ _ (caps-response-good (a .1 .0))) _ _ r n (p .0) (p .1) g
+caps-response-back κs a r s n p g =
+    on-contract _ _ _ _ (reads-back _ _ _ _ (caps-response-good (a .1 .0))) _ _ r n (p .0) (p .1) g
