@@ -61,8 +61,8 @@ readStrict fromServer pdu = strictly (loose fromServer pdu) (readPdu fromServer 
 unfoldable pub strictRows : Bool → List ℕ → List Row
 strictRows fromServer pdu = readingRows fromServer pdu ++ (row Loose (loose fromServer pdu) ∷ [])
 
--- for a host in C: who sent the PDU is "0 for [..] the client, anything else [..] the server", and the answer "0 accepted, else
--- the refusal number"
+-- for a host in C, who sent the PDU is a number, 0 for the client and any other for the server, and the answer is one: 0 for
+-- an accepted PDU, or the refusal's
 unfoldable pub strictVerdict : ℕ → List ℕ → ℕ
 strictVerdict fromServer pdu = verdictNumber (verdictOn (readStrict (not (eqb fromServer 0)) pdu))
 

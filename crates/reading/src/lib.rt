@@ -97,6 +97,7 @@ fn short_at(pdu: &[u8], at: usize) -> u16
     numbers::number(&pdu[at..at + 2]) as u16
 }
 
+// A refusal, in which nothing is loose.
 fn refused(why: Refusal) -> Found
     ensures { λ r. ⌜ (r .answer ≡ Refused why) × (r .loose ≡ false) ⌝ }
 {
@@ -190,6 +191,7 @@ fn after_number(
         (afterNumber «from_server» (now (pdu .entry)) cmd middle (number .value) at) ⌝ }
 {
     let value = number.value;
+    // Where the middle bits are Sp.
     let loose = number.wide | (middle != 0);
     if cmd == CREATE {
         if from_server {
