@@ -43,19 +43,12 @@ module _ (fromServer : Bool) (n : ℕ) (small : n < NUMBERS) (m : List ℕ) (at 
   read-piece : length m < NUMBERS → (t : Bool) → isFirst (length m) at ≡ t
       → strictAs fromServer (cutPdu n m at) ≡ values (cond t (data-first n (length m) (block n m at)) (data-block n (block n m at)))
   read-piece short true e =
-      strict.every-tight fromServer _ _
-      (record {
-        encodes = rw (cut-first n m at e) (data-first-encoded n small fromServer (length m) (block n m at) short);
-        is-tight = cut-first n m at e ∙ data-first-tight n (length m) (block n m at);
-        short = cut-fits n m at;
-      })
+      strict.tight-read fromServer _ _
+      (rw (cut-first n m at e) (data-first-encoded n small fromServer (length m) (block n m at) short))
+      (cut-first n m at e ∙ data-first-tight n (length m) (block n m at)) (cut-fits n m at)
   read-piece short false e =
-      strict.every-tight fromServer _ _
-      (record {
-        encodes = rw (cut-data n m at e) (data-encoded n small fromServer (block n m at));
-        is-tight = cut-data n m at e ∙ data-tight n (block n m at);
-        short = cut-fits n m at;
-      })
+      strict.tight-read fromServer _ _ (rw (cut-data n m at e) (data-encoded n small fromServer (block n m at)))
+      (cut-data n m at e ∙ data-tight n (block n m at)) (cut-fits n m at)
 
   pub cut-is-strict :
       (out : List ℕ) (len next : ℕ) → cutAt n m at out ≡ Pdu len next

@@ -20,7 +20,7 @@ use Rattle.reading.specs.Grammar.{capabilities-request, capabilities-response, 
 use Rattle.reading.specs.Grammar.{SmallCharges, noCharges, versioned, Encodes, create-request-is}
 use Rattle.reading.specs.Grammar.{create-response-is, data-first-is, data-is, close-is, capabilities-1-is}
 use Rattle.reading.specs.Grammar.{capabilities-is, capabilities-response-is}
-use Rattle.reading.specs.Tight.{tight, narrowly}
+use Rattle.reading.proofs.Tight.{tight, narrowly}
 use Rattle.laying.specs.Laying.{headOf, createRequestBytes, createResponseBytes, dataFirstHead, dataFirstBytes}
 use Rattle.laying.specs.Laying.{dataBytes, closeBytes, capsHead, capsRequestBytes, capsResponseBytes}
 

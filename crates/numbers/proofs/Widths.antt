@@ -12,7 +12,7 @@ use lib.ListN.{length, take, drop, getD, length-take, drop-of-length-le}
 use lib.Seq.{take-all, take-at, drop-at, take-nil, drop-nil, getD-drop}
 use Rattle.lists.proofs.Cases.{lt-or-le, choice}
 use Rattle.numbers.specs.Numbers.{Bytes, NUMBERS, little, bytesOf, valueOf, valueAt, widthOf, codeFor, narrowest}
-use Rattle.numbers.specs.Numbers.{narrowBytes, wide, wideAt}
+use Rattle.numbers.specs.Numbers.{narrowBytes, wideOf, wideAt}
 
 -- ---- lengths and bounds
 
@@ -151,7 +151,7 @@ value-in p q n v at e k h =
 -- and wide where a narrower width holds it
 pub wide-in : (p q : List ℕ) (n v at : ℕ) → length p ≡ at → n ≤ 4 → v < 256 ^ n
     → wideAt (p ++ (bytesOf n v ++ q)) at n ≡ ltb (narrowest v) n
-unfolding wideAt wide valueAt
+unfolding wideAt wideOf valueAt
 wide-in p q n v at e k h =
     let value : valueOf (take n (drop at (p ++ (bytesOf n v ++ q)))) ≡ v = value-in p q n v at e k h in
     rw (value, drop-at p (bytesOf n v ++ q) at e, take-at (bytesOf n v) q n (length-bytesOf n v), length-bytesOf)

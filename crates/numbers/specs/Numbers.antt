@@ -49,16 +49,16 @@ unfoldable pub narrowBytes : ℕ → List ℕ
 narrowBytes v = bytesOf (narrowest v) v
 
 -- whether a narrower width than that of a number's bytes would do,
-unfoldable pub wide : List ℕ → Bool
-wide bytes = ltb (narrowest (valueOf bytes)) (length bytes)
+unfoldable pub wideOf : List ℕ → Bool
+wideOf bytes = ltb (narrowest (valueOf bytes)) (length bytes)
 
 -- or than n, for the bytes from a place on
 unfoldable pub wideAt : List ℕ → ℕ → ℕ → Bool
-wideAt list at n = wide (take n (drop at list))
+wideAt list at n = wideOf (take n (drop at list))
 
 -- what reading a number finds
 abbrev pub measuredOf : List ℕ → Measured
-measuredOf bytes = record { value = valueOf bytes; wide = wide bytes }
+measuredOf bytes = record { value = valueOf bytes; wide = wideOf bytes }
 
 abbrev pub measuredAt : List ℕ → ℕ → ℕ → Measured
 measuredAt list at n = record { value = valueAt list at n; wide = wideAt list at n }

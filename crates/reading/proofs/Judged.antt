@@ -46,20 +46,21 @@ module _ (pdu : List ℕ) (middle : ℕ) (wide : Bool) (at : ℕ) where
   unfolding looseAfter wideLength spSet hasSp
   loose-request = or-false wide
 
-  pub loose-response : looseAfter false pdu CREATE middle wide at ≡ (wide || not (eqb middle 0))
-  unfolding looseAfter wideLength spSet hasSp
-  loose-response = refl
-
   -- nor is the width of Length
   pub loose-first : (fromServer : Bool) → looseAfter fromServer pdu DATA-FIRST middle wide at ≡ (wide || wideAt pdu at (widthOf middle))
   unfolding looseAfter wideLength spSet hasSp
   loose-first fromServer = rw (or-false (wideAt pdu at (widthOf middle)))
 
-  -- Data and Close
-  pub loose-other : (fromServer : Bool) (cmd : ℕ) → (cmd ≡ CREATE → ⊥) → (cmd ≡ DATA-FIRST → ⊥)
+  -- a Create response, Data and Close
+  pub loose-sp : (fromServer : Bool) (cmd : ℕ) → eqb cmd DATA-FIRST ≡ false → hasSp fromServer cmd ≡ true
       → looseAfter fromServer pdu cmd middle wide at ≡ (wide || not (eqb middle 0))
-  unfolding looseAfter wideLength spSet hasSp
-  loose-other fromServer cmd h k = rw (ne-eqb cmd CREATE h, ne-eqb cmd DATA-FIRST k)
+  unfolding looseAfter wideLength spSet
+  loose-sp fromServer cmd h k = rw (h, k)
+
+-- neither a Create nor a Data First
+pub has-sp : (fromServer : Bool) (cmd : ℕ) → (cmd ≡ CREATE → ⊥) → (cmd ≡ DATA-FIRST → ⊥) → hasSp fromServer cmd ≡ true
+unfolding hasSp
+has-sp fromServer cmd h k = rw (ne-eqb cmd CREATE h, ne-eqb cmd DATA-FIRST k)
 
 -- ---- what strict reading answers
 

@@ -29,11 +29,11 @@ use Rattle.reading.specs.Grammar.{Value, create-request, create-response
 use Rattle.reading.specs.Grammar.{capabilities-request, capabilities-response, values, meant, readAs}
 use Rattle.reading.specs.Grammar.{Encodes, create-request-is, create-response-is, data-first-is, data-is, close-is}
 use Rattle.reading.specs.Grammar.{capabilities-1-is, capabilities-is, capabilities-response-is}
-use Rattle.reading.specs.Tight.{strictAs, tight, Tightly, TightExactly, Loosely, LooseExactly}
+use Rattle.reading.specs.Tight.{strictAs, Tightly, TightExactly, Loosely, LooseExactly}
 use Rattle.reading.proofs.Placed.{Placed, placed}
 use Rattle.reading.proofs.Grammar.{every-encoding, exactly}
 use Rattle.reading.proofs.Layouts.{reading-refusals}
-use Rattle.reading.proofs.Tight.{looseIn, loose-is, is-loose, loose-if, is-tight, tight-if}
+use Rattle.reading.proofs.Tight.{looseIn, loose-is, is-loose, loose-if, tight, is-tight, tight-if}
 
 -- ---- beside plain reading
 
@@ -106,20 +106,35 @@ unfolding readStrict strictly readAs
 on-encoding fromServer v bytes e short =
     rw (has-values bytes (readPdu fromServer bytes) v (every-encoding fromServer v bytes e short), loose-is fromServer v bytes e) refl
 
+record NotLoose (fromServer : Bool) (v : Value) (bytes : List ℕ) : Type 0 where
+  encodes : Encodes fromServer v bytes
+  is-not : looseIn encodes ≡ false
+  short : length bytes ≤ PDU-MAX
+
 -- an accepted encoding isn't loose
 not-loose : {answer : Pdu} (p : Pdu) (t : Bool) → answer ≡ refuse (Refused Loose) t p → accepted answer ≡ true → t ≡ false
 not-loose p true e h = absurd (true-not-false (sym h ∙ ap accepted e))
 not-loose p false e h = refl
 
 module _ (fromServer : Bool) (bytes : List ℕ) (b : Bytes bytes) where
-  only-tight : (v : Value) → strictAs fromServer bytes ≡ values v → Tightly fromServer v bytes
+  -- an encoding that it answers isn't loose
+  found : (v : Value) → strictAs fromServer bytes ≡ values v → NotLoose fromServer v bytes
   unfolding strictAs readAs
-  only-tight v h =
+  found v h =
       let fine = has-values bytes (readStrict fromServer bytes) v h in
       let plain = rw (same-answer fromServer bytes fine) at h in
       let e = exactly fromServer v bytes b .only-encodings plain in
       let t = not-loose _ (looseIn (e .0)) (on-encoding fromServer v bytes (e .0) (e .1)) fine in
-      record { encodes = e .0; is-tight = is-tight (e .0) t; short = e .1 }
+      record { encodes = e .0; is-not = t; short = e .1 }
+
+  only-tight : (v : Value) → strictAs fromServer bytes ≡ values v → Tightly fromServer v bytes
+  only-tight v h =
+      let f = found v h in
+      record {
+        encodes = f .encodes;
+        nothing-loose = λ l. true-not-false (sym (loose-if (f .encodes) l) ∙ f .is-not);
+        short = f .short;
+      }
 
   -- 18 is no answer of plain reading
   is-18 : readStrict fromServer bytes ≡ Refused Loose → (accepted (readPdu fromServer bytes) ≡ true) × (loose fromServer bytes ≡ true)
@@ -141,11 +156,23 @@ module _ (fromServer : Bool) (bytes : List ℕ) (b : Bytes bytes) where
       let here = sym (loose-is fromServer (v .value) bytes (e .0)) ∙ found .1 in
       record { value = v .value; encodes = e .0; is-loose = is-loose (e .0) here; short = e .1 }
 
-pub every-tight : (fromServer : Bool) (v : Value) (bytes : List ℕ) → Tightly fromServer v bytes → strictAs fromServer bytes ≡ values v
+-- an encoding that isn't loose is answered
+answered : (fromServer : Bool) (v : Value) (bytes : List ℕ) (e : Encodes fromServer v bytes) → looseIn e ≡ false → length bytes ≤ PDU-MAX
+    → strictAs fromServer bytes ≡ values v
 unfolding strictAs readAs
-every-tight fromServer v bytes t =
-    rw (on-encoding fromServer v bytes (t .encodes) (t .short), tight-if (t .encodes) (t .is-tight))
-    (every-encoding fromServer v bytes (t .encodes) (t .short))
+answered fromServer v bytes e t short = rw (on-encoding fromServer v bytes e short, t) (every-encoding fromServer v bytes e short)
+
+every-tight : (fromServer : Bool) (v : Value) (bytes : List ℕ) → Tightly fromServer v bytes → strictAs fromServer bytes ≡ values v
+every-tight fromServer v bytes t = answered fromServer v bytes (t .encodes) (go (looseIn (t .encodes)) refl) (t .short)
+  where
+    go : (u : Bool) → looseIn (t .encodes) ≡ u → looseIn (t .encodes) ≡ false
+    go true e = absurd (t .nothing-loose (is-loose (t .encodes) e))
+    go false e = e
+
+-- and so is the narrowest
+pub tight-read : (fromServer : Bool) (v : Value) (bytes : List ℕ) → Encodes fromServer v bytes → bytes ≡ tight v → length bytes ≤ PDU-MAX
+    → strictAs fromServer bytes ≡ values v
+tight-read fromServer v bytes e t short = answered fromServer v bytes e (tight-if e t) short
 
 pub tight-exactly : (fromServer : Bool) (v : Value) (bytes : List ℕ) → Bytes bytes → TightExactly fromServer v bytes
 tight-exactly fromServer v bytes b = record { only-tight = only-tight fromServer bytes b v; every-tight = every-tight fromServer v bytes }
@@ -220,8 +247,8 @@ from-said : (fromServer : Bool) (bytes : List ℕ) → Bytes bytes → accepted 
 unfolding strictAs
 from-said fromServer bytes b h =
     let v = valued bytes (readStrict fromServer bytes) h in
-    let t = only-tight fromServer bytes b (v .value) (v .is) in
-    t .is-tight ∙ sym (tight-said (t .encodes))
+    let f = found fromServer bytes b (v .value) (v .is) in
+    is-tight (f .encodes) (f .is-not) ∙ sym (tight-said (f .encodes))
     ∙ ap (tightOf fromServer) (sym (said-so bytes (readStrict fromServer bytes) (v .value) (v .is)))
 
 pub one-meaning : (fromServer : Bool) (one two : List ℕ) → Bytes one → Bytes two

@@ -4,7 +4,7 @@
 use Prim.Native.Nat.{ℕ, _+_, _/_, _%_, _≤_}
 use native.Mathlib.Omega.{arith}
 use mathlib.Core.Path.{_≡_, refl, sym, ap, _∙_}
-use mathlib.Core.Bool.{Bool, true, false, not, _||_}
+use mathlib.Core.Bool.{Bool, true, false, cond, not, _||_}
 use mathlib.Core.List.{List, [], _∷_, _++_}
 use mathlib.Core.Logic.{_⊎_, inl, inr, _≢_}
 use borrow.Author.Tests.{lt-ltb, le-ltb, ltb-true, ltb-false, eq-eqb, ne-eqb, eqb-true, not-false}
@@ -13,14 +13,17 @@ use lib.ListN.{getD}
 use Rattle.paper.specs.Commands.{CREATE, DATA-FIRST, DATA, CLOSE, CAPABILITIES}
 use Rattle.lists.proofs.Cases.{true-not-false, neither}
 use Rattle.numbers.specs.Numbers.{bytesOf, widthOf, codeFor, narrowest, narrowBytes}
+use Rattle.numbers.specs.Status.{statusBytes}
 use Rattle.numbers.proofs.Widths.{width-le, code-le, wide-in, not-wide}
-use Rattle.reading.specs.Grammar.{Value, InWidth, firstByte, carrying, versioned, Encodes}
+use Rattle.reading.specs.Grammar.{Value, create-request, create-response, data-first, data-block, close}
+use Rattle.reading.specs.Grammar.{capabilities-request, capabilities-response, InWidth, firstByte, carrying}
+use Rattle.reading.specs.Grammar.{chargeBytes, versioned, Encodes}
 use Rattle.reading.specs.Grammar.{create-request-is, create-response-is, data-first-is, data-is, close-is}
 use Rattle.reading.specs.Grammar.{capabilities-1-is, capabilities-is, capabilities-response-is}
 use Rattle.reading.specs.Strict.{hasSp, spSet, looseAfter, looseNumbered, looseBy, loose}
-use Rattle.reading.specs.Tight.{tight, Wide, LooseIn}
+use Rattle.reading.specs.Tight.{Wide, LooseIn}
 use Rattle.reading.proofs.Heads.{headIn, length-head-in}
-use Rattle.reading.proofs.Judged.{loose-request, loose-response, loose-first, loose-other}
+use Rattle.reading.proofs.Judged.{loose-request, loose-first, loose-sp}
 
 -- ---- what is loose in an encoding
 
@@ -65,11 +68,11 @@ capable fromServer sp version rest m =
     rw (e1, e2) refl
 
 pub loose-is : (fromServer : Bool) (v : Value) (bytes : List ℕ) (e : Encodes fromServer v bytes) → loose fromServer bytes ≡ looseIn e
-unfolding set wider headIn
+unfolding set wider headIn hasSp
 loose-is fromServer v bytes (create-request-is code number pri name k p z e) =
     rw e (carried true code CREATE pri number _ k p (omega arith) (omega arith) ∙ loose-request _ _ _ _)
 loose-is fromServer v bytes (create-response-is code sp number status k p z e) =
-    rw e (carried false code CREATE sp number _ k p (omega arith) (omega arith) ∙ loose-response _ _ _ _)
+    rw e (carried false code CREATE sp number _ k p (omega arith) (omega arith) ∙ loose-sp _ _ _ _ false CREATE refl refl)
 loose-is fromServer v bytes (data-first-is dir code lengthCode number len block k q e) =
     let g = q .good in
     rw e (carried dir code DATA-FIRST lengthCode number _ k (omega arith) (omega arith) (omega arith) ∙ loose-first _ _ _ _ dir
@@ -77,11 +80,9 @@ loose-is fromServer v bytes (data-first-is dir code lengthCode number len block 
     (wide-in (headIn code DATA-FIRST lengthCode number) block (widthOf lengthCode) len (1 + widthOf code)
     (length-head-in code DATA-FIRST lengthCode number) (width-le lengthCode) (q .holds)))
 loose-is fromServer v bytes (data-is dir code sp number block k p e) =
-    rw e (carried dir code DATA sp number _ k p (omega arith) (omega arith)
-    ∙ loose-other _ _ _ _ dir DATA (λ h. omega arith) (λ h. omega arith))
+    rw e (carried dir code DATA sp number _ k p (omega arith) (omega arith) ∙ loose-sp _ _ _ _ dir DATA refl refl)
 loose-is fromServer v bytes (close-is dir code sp number k p e) =
-    rw e (carried dir code CLOSE sp number _ k p (omega arith) (omega arith)
-    ∙ loose-other _ _ _ _ dir CLOSE (λ h. omega arith) (λ h. omega arith))
+    rw e (carried dir code CLOSE sp number _ k p (omega arith) (omega arith) ∙ loose-sp _ _ _ _ dir CLOSE refl refl)
 loose-is fromServer v bytes (capabilities-1-is sp p e) = rw e (capable true sp 1 _ p)
 loose-is fromServer v bytes (capabilities-is sp version charges p h k z e) = rw e (capable true sp version _ p)
 loose-is fromServer v bytes (capabilities-response-is sp version p h k e) = rw e (capable false sp version _ p)
@@ -135,6 +136,19 @@ loose-if (capabilities-response-is sp version p h k e) s = set-is sp s
 
 -- ---- where nothing is loose the encoding is the narrowest, and the other way round
 
+abbrev pub narrowly : ℕ → ℕ → ℕ → List ℕ → List ℕ
+narrowly cmd middle number rest = carrying (codeFor number) cmd middle number rest
+
+-- the one encoding of a value in the narrowest widths with Sp 0
+unfoldable pub tight : Value → List ℕ
+tight (create-request number pri name) = narrowly CREATE pri number (name ++ (0 ∷ []))
+tight (create-response number status) = narrowly CREATE 0 number (statusBytes status)
+tight (data-first number len block) = narrowly DATA-FIRST (codeFor len) number (narrowBytes len ++ block)
+tight (data-block number block) = narrowly DATA 0 number block
+tight (close number) = narrowly CLOSE 0 number []
+tight (capabilities-request version charges) = versioned 0 version (cond (eqb version 1) [] (chargeBytes charges))
+tight (capabilities-response version) = versioned 0 version []
+
 narrow : (code number : ℕ) → InWidth code number → wider code number ≡ false → code ≡ codeFor number
 unfolding wider
 narrow code number k h = not-wide number code (k .good) (k .holds) (ltb-false (narrowest number) (widthOf code) h)
@@ -144,7 +158,7 @@ unfolding set
 clear sp h = eqb-true sp 0 (not-false (eqb sp 0) h)
 
 carried-narrow : (code cmd middle sp number : ℕ) (rest : List ℕ) → code ≡ codeFor number → middle ≡ sp
-    → carrying code cmd middle number rest ≡ carrying (codeFor number) cmd sp number rest
+    → carrying code cmd middle number rest ≡ narrowly cmd sp number rest
 carried-narrow code cmd middle sp number rest p q = rw (p, q)
 
 pub is-tight : {fromServer : Bool} {v : Value} {bytes : List ℕ} (e : Encodes fromServer v bytes) → looseIn e ≡ false → bytes ≡ tight v

@@ -1,21 +1,16 @@
--- Strict reading and the grammar: of all encodings of its values a PDU has one in the narrowest widths with Sp 0, and
--- strict reading accepts that one. In every other a number or Length is wide, or Sp is not 0.
+-- Strict reading and the grammar: of the encodings of its values strict reading accepts those in the narrowest widths with
+-- Sp 0, and refuses every other with 18.
 use Prim.Native.Nat.{ℕ, _≤_, _<_}
 use mathlib.Core.Path.{_≡_}
-use mathlib.Core.Bool.{Bool, cond}
-use mathlib.Core.List.{List, [], _∷_, _++_}
+use mathlib.Core.Bool.{Bool}
+use mathlib.Core.List.{List}
 use mathlib.Core.Logic.{_⊎_, _≢_}
-use lib.Dec.{eqb}
 use lib.ListN.{length}
 use Rattle.paper.specs.Sizes.{PDU-MAX}
-use Rattle.paper.specs.Commands.{CREATE, DATA-FIRST, DATA, CLOSE}
 use Rattle.paper.specs.declared.Refusal.the-variants.{Loose}
-use Rattle.numbers.specs.Numbers.{codeFor, narrowest, narrowBytes, widthOf}
-use Rattle.numbers.specs.Status.{statusBytes}
+use Rattle.numbers.specs.Numbers.{narrowest, widthOf}
 use Rattle.reading.specs.Strict.{readStrict}
-use Rattle.reading.specs.Grammar.{Value, create-request, create-response, data-first, data-block, close}
-use Rattle.reading.specs.Grammar.{capabilities-request, capabilities-response, Read, values, meant, carrying}
-use Rattle.reading.specs.Grammar.{chargeBytes, versioned, Encodes, create-request-is, create-response-is}
+use Rattle.reading.specs.Grammar.{Value, Read, values, meant, Encodes, create-request-is, create-response-is}
 use Rattle.reading.specs.Grammar.{data-first-is, data-is, close-is, capabilities-1-is, capabilities-is}
 use Rattle.reading.specs.Grammar.{capabilities-response-is}
 use Rattle.reading.specs.declared.Pdu.the-variants.{Refused}
@@ -24,32 +19,7 @@ use Rattle.reading.specs.declared.Pdu.the-variants.{Refused}
 unfoldable pub strictAs : Bool → List ℕ → Read
 strictAs fromServer bytes = meant bytes (readStrict fromServer bytes)
 
--- ---- the narrowest encoding
-
-abbrev pub narrowly : ℕ → ℕ → ℕ → List ℕ → List ℕ
-narrowly cmd middle number rest = carrying (codeFor number) cmd middle number rest
-
-unfoldable pub tight : Value → List ℕ
-tight (create-request number pri name) = narrowly CREATE pri number (name ++ (0 ∷ []))
-tight (create-response number status) = narrowly CREATE 0 number (statusBytes status)
-tight (data-first number len block) = narrowly DATA-FIRST (codeFor len) number (narrowBytes len ++ block)
-tight (data-block number block) = narrowly DATA 0 number block
-tight (close number) = narrowly CLOSE 0 number []
-tight (capabilities-request version charges) = versioned 0 version (cond (eqb version 1) [] (chargeBytes charges))
-tight (capabilities-response version) = versioned 0 version []
-
--- strict reading answers these values exactly if the bytes are their encoding in the narrowest widths with Sp 0, of at
--- most 1,600 bytes
-pub record Tightly (fromServer : Bool) (v : Value) (bytes : List ℕ) : Type 0 where
-  pub encodes : Encodes fromServer v bytes
-  pub is-tight : bytes ≡ tight v
-  pub short : length bytes ≤ PDU-MAX
-
-pub record TightExactly (fromServer : Bool) (v : Value) (bytes : List ℕ) : Type 0 where
-  pub only-tight : strictAs fromServer bytes ≡ values v → Tightly fromServer v bytes
-  pub every-tight : Tightly fromServer v bytes → strictAs fromServer bytes ≡ values v
-
--- ---- every other encoding
+-- ---- what sets an encoding apart from the narrowest
 
 -- a number in a wider width than the narrowest that holds it
 abbrev pub Wide : ℕ → ℕ → Type 0
@@ -66,7 +36,20 @@ LooseIn (capabilities-1-is sp p e) = sp ≢ 0
 LooseIn (capabilities-is sp version charges p h k z e) = sp ≢ 0
 LooseIn (capabilities-response-is sp version p h k e) = sp ≢ 0
 
--- the bytes are such an encoding of some values, of at most 1,600 bytes
+-- ---- exactly
+
+-- the bytes are an encoding of the values in the narrowest widths with Sp 0, of at most 1,600 bytes
+pub record Tightly (fromServer : Bool) (v : Value) (bytes : List ℕ) : Type 0 where
+  pub encodes : Encodes fromServer v bytes
+  pub nothing-loose : LooseIn encodes → ⊥
+  pub short : length bytes ≤ PDU-MAX
+
+-- strict reading answers these values exactly then
+pub record TightExactly (fromServer : Bool) (v : Value) (bytes : List ℕ) : Type 0 where
+  pub only-tight : strictAs fromServer bytes ≡ values v → Tightly fromServer v bytes
+  pub every-tight : Tightly fromServer v bytes → strictAs fromServer bytes ≡ values v
+
+-- the bytes are any other encoding of some values, of at most 1,600 bytes
 pub record Loosely (fromServer : Bool) (bytes : List ℕ) : Type 0 where
   pub value : Value
   pub encodes : Encodes fromServer value bytes

@@ -24,9 +24,10 @@ use Rattle.reading.specs.declared.Charges.{Charges}
 use Rattle.reading.specs.Grammar.{Value, create-request, create-response, data-first, data-block, close}
 use Rattle.reading.specs.Grammar.{capabilities-request, capabilities-response, values, readAs, SmallCharges}
 use Rattle.reading.specs.Grammar.{noCharges, Encodes}
-use Rattle.reading.specs.Tight.{strictAs, tight}
+use Rattle.reading.specs.Tight.{strictAs}
 use Rattle.reading.proofs.Grammar.{every-encoding, zero-free, same-charges}
-use Rattle.reading.proofs.Strict.{every-tight}
+use Rattle.reading.proofs.Tight.{tight}
+use Rattle.reading.proofs.Strict.{tight-read}
 use Rattle.laying.specs.Laying.{bufferAfter, createRequestBytes, createResponseBytes, dataFirstBytes, dataBytes}
 use Rattle.laying.specs.Laying.{closeBytes, capsRequestBytes, capsResponseBytes}
 use Rattle.laying.proofs.Encoded.{close-encoded, data-encoded, data-first-encoded, create-response-encoded}
@@ -87,8 +88,7 @@ pub strict-back : (fromServer bad : Bool) (pdu : List ℕ) (v : Value) → Good 
 strict-back fromServer bad pdu v laid-so out n g =
     let w = went bad pdu out _ _ n refl refl g in
     ap (strictAs fromServer) (w .stands)
-    ∙ every-tight fromServer v pdu
-    (record { encodes = laid-so .encodes (w .good); is-tight = laid-so .is-tight (w .good); short = w .short-enough })
+    ∙ tight-read fromServer v pdu (laid-so .encodes (w .good)) (laid-so .is-tight (w .good)) (w .short-enough)
 
 -- ---- each kind
 
