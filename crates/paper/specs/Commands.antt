@@ -15,3 +15,10 @@ CLOSE = 4
 
 abbrev pub CAPABILITIES : ℕ
 CAPABILITIES = 5
+
+-- "Not in: commands 6 and 7 (compressed)". They have a number where Data First and Data have it.
+abbrev pub DATA-FIRST-COMPRESSED : ℕ
+DATA-FIRST-COMPRESSED = 6
+
+abbrev pub DATA-COMPRESSED : ℕ
+DATA-COMPRESSED = 7

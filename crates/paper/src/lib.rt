@@ -38,6 +38,11 @@ pub const CLOSE: u8 = 4;
 
 pub const CAPABILITIES: u8 = 5;
 
+// Not read. They have a number where Data First and Data have it.
+pub const DATA_FIRST_COMPRESSED: u8 = 6;
+
+pub const DATA_COMPRESSED: u8 = 7;
+
 // CreationStatus of a channel that is opened, that no listener is there for, and that no record is free for.
 pub const OPENED: i32 = 0;
 

@@ -48,7 +48,7 @@ use Rattle.reading.specs.Grammar.{capabilities-response-is, Exactly}
 
 -- a PDU that carries a number
 module _ (code cmd middle number : ℕ) (rest : List ℕ) where
-  length-carried : length (carrying code cmd middle number rest) ≡ 1 + widthOf code + length rest
+  pub length-carried : length (carrying code cmd middle number rest) ≡ 1 + widthOf code + length rest
   length-carried = let l = length-append (bytesOf (widthOf code) number) rest in let q = length-bytesOf (widthOf code) number in omega arith
 
   behind-carried : drop (1 + widthOf code) (carrying code cmd middle number rest) ≡ rest
@@ -56,7 +56,7 @@ module _ (code cmd middle number : ℕ) (rest : List ℕ) where
   behind-carried = drop-at (headIn code cmd middle number) rest (1 + widthOf code) (length-head-in code cmd middle number)
 
   -- once its number was read
-  read-carried :
+  pub read-carried :
       (fromServer : Bool) → InWidth code number → 1 ≤ cmd → cmd ≤ 4 → middle ≤ 3 → badLengthWidth cmd middle ≡ false
       → length (carrying code cmd middle number rest) ≤ PDU-MAX
       → readPdu fromServer (carrying code cmd middle number rest) ≡ afterNumber fromServer (carrying code cmd middle number rest) cmd middle number (1 + widthOf code)
@@ -312,22 +312,22 @@ status-fits rest l b =
 
 module _ (pdu : List ℕ) (b : Bytes pdu) where
   module _ (code cmd middle : ℕ) (some : 1 ≤ length pdu) (first : getD pdu 0 0 ≡ firstByte cmd middle code) (m : middle ≤ 3) (c : code ≤ 2) (room : 1 + widthOf code ≤ length pdu) where
-    at : ℕ
+    unfoldable pub at : ℕ
     at = 1 + widthOf code
 
-    number : ℕ
+    unfoldable pub number : ℕ
     number = valueAt pdu 1 (widthOf code)
 
-    it-holds : InWidth code number
+    pub it-holds : InWidth code number
     unfolding number
     it-holds = record { good = c; holds = value-below pdu 1 (widthOf code) (width-le code) b }
 
-    carries : pdu ≡ carrying code cmd middle number (drop at pdu)
+    pub carried : pdu ≡ carrying code cmd middle number (drop at pdu)
     unfolding number at
-    carries = drop-cons pdu 0 0 some ∙ ap (λ (x : ℕ). x ∷ drop 1 pdu) first ∙ ap (λ (x : List ℕ). firstByte cmd middle code ∷ x) (field pdu 1 (widthOf code) b (width-le code) room)
+    carried = drop-cons pdu 0 0 some ∙ ap (λ (x : ℕ). x ∷ drop 1 pdu) first ∙ ap (λ (x : List ℕ). firstByte cmd middle code ∷ x) (field pdu 1 (widthOf code) b (width-le code) room)
 
     carries-as : (rest : List ℕ) → drop at pdu ≡ rest → pdu ≡ carrying code cmd middle number rest
-    carries-as rest e = carries ∙ ap (carrying code cmd middle number) e
+    carries-as rest e = carried ∙ ap (carrying code cmd middle number) e
 
   -- kind by kind, behind the number
   module _ (code middle : ℕ) (some : 1 ≤ length pdu) (m : middle ≤ 3) (c : code ≤ 2) (room : 1 + widthOf code ≤ length pdu) where

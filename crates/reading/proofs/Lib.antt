@@ -2,6 +2,7 @@ pub mod Judged
 pub mod Placed
 pub mod Heads
 pub mod Grammar
+pub mod Garbled
 pub mod Layouts
 pub mod Tight
 pub mod Strict

@@ -3,12 +3,15 @@
 // `read` is plain reading. It takes any bytes and refuses what it can't read, in the paper's order: the first rule that
 // holds gives the refusal. `read_strict` refuses more, last: a number or Length that a narrower width would hold, and
 // ignored bits that are set. Both stand on the same stages, `find` and those before it, in that order, each with a
-// definition of its own name in specs/Reading; what strict reading adds to them is in specs/Strict.
+// definition of its own name in specs/Reading; what strict reading adds to them is in specs/Strict. `carries` tells whose a
+// block of data is that reading refuses.
 use numbers::Measured;
 use paper::CAPABILITIES;
 use paper::CREATE;
 use paper::DATA;
+use paper::DATA_COMPRESSED;
 use paper::DATA_FIRST;
+use paper::DATA_FIRST_COMPRESSED;
 use paper::PDU_MAX;
 use paper::Refusal;
 ghost use mathlib.Core.Path.{_≡_};
@@ -21,6 +24,7 @@ ghost use Rattle.reading.specs.Reading.{readPdu, byCommand, numbered, ba
 ghost use Rattle.reading.specs.Reading.{createRequest, createResponse, dataFirst, closing};
 ghost use Rattle.reading.specs.Reading.{capabilities, byVersion, charged};
 ghost use Rattle.reading.specs.declared.Pdu.the-variants.{Refused};
+ghost use Rattle.reading.specs.Garbled.{bringsBlock, wholeIn, carries};
 ghost use Rattle.reading.specs.Said.{verdictOn};
 ghost use Rattle.reading.specs.Strict.{readStrict, strictVerdict, looseBy, looseNumbered, looseAfter, loose, strictly, judged};
 
@@ -73,6 +77,12 @@ pub enum Pdu {
         version: u16,
     },
     Refused(Refusal),
+}
+
+// The channel number that stands whole in a block of data, if one does.
+pub enum Carried {
+    NoNumber,
+    Number(u32),
 }
 
 // What both readings share: plain reading's answer, and whether strict reading refuses what that accepts.
@@ -383,6 +393,51 @@ pub fn read_strict(pdu: &[u8], from_server: bool) -> Pdu
         return Pdu::Refused(Refusal::Loose);
     }
     answer
+}
+
+// The commands of a block of data, compressed or not.
+fn brings_block(cmd: u8) -> bool
+    ensures { λ r. ⌜ r ≡ bringsBlock cmd ⌝ }
+{
+    if cmd == DATA_FIRST {
+        return true;
+    }
+    if cmd == DATA {
+        return true;
+    }
+    if cmd == DATA_FIRST_COMPRESSED {
+        return true;
+    }
+    cmd == DATA_COMPRESSED
+}
+
+// The number in the width of the code, where the PDU has all its bytes.
+fn whole_in(pdu: &[u8], code: u8) -> Carried
+    ensures { λ r. ⌜ r ≡ wholeIn (now (pdu .entry)) code ⌝ }
+{
+    if code == 3 {
+        return Carried::NoNumber;
+    }
+    let width = numbers::width(code);
+    if pdu.len() <= width {
+        return Carried::NoNumber;
+    }
+    let number = number_at(pdu, 1, width);
+    Carried::Number(number.value)
+}
+
+// The channel number that a block of data carries whole, also where reading refuses the PDU, for whatever reason.
+pub fn carries(pdu: &[u8]) -> Carried
+    ensures { λ r. ⌜ r ≡ carries (now (pdu .entry)) ⌝ }
+{
+    if pdu.len() == 0 {
+        return Carried::NoNumber;
+    }
+    let first = pdu[0];
+    if brings_block(first / 16) {
+        return whole_in(pdu, first % 4);
+    }
+    Carried::NoNumber
 }
 
 // The number of an answer's refusal, or 0 where it is none.
