@@ -66,6 +66,16 @@ def close(r, number):
     return head(r, 4, r.randrange(4), number)
 
 
+def garbled(r, number):
+    """A block of data, compressed or not, that mostly can't be read: cut off, too long, or of a bad width."""
+    pdu = bytearray(head(r, r.choice([2, 2, 3, 6, 7]), r.randrange(4), number) + r.randbytes(r.choice([0, 0, 1, 2, 3, 9])))
+    if r.random() < 0.2:
+        pdu[0] |= 3
+    if r.random() < 0.2:
+        pdu += bytes(r.choice([PDU_MAX + 1, RECORD_MAX]) - len(pdu))
+    return bytes(pdu[: r.randint(1, 6)] if r.random() < 0.4 else pdu)
+
+
 class Session:
     """PDUs that know which channels should be open and how much of a message is to come, to aim by. It judges nothing."""
 
@@ -141,7 +151,7 @@ def at_boundary(r):
     for _ in range(r.randint(1, 60)):
         n = s.any_open() if r.random() < 0.85 else r.choice(s.numbers)
         left = s.left.get(n, 0)
-        what = r.randrange(12)
+        what = r.randrange(13)
         if what < 4 and left:
             s.more(n, min(max(0, left + r.choice([-1, 0, 0, 0, 1])), PDU_MAX - 5))
         elif what < 6:
@@ -157,6 +167,8 @@ def at_boundary(r):
             s.open(r.choice(s.numbers), r.choice(NAMES))
         elif what == 10:
             s.put(capabilities(r, r.randrange(5)))
+        elif what == 11:
+            s.put(garbled(r, n))
         else:
             pdu = data(r, n, 1)
             s.put(pdu + bytes(max(0, r.choice([PDU_MAX, PDU_MAX + 1, RECORD_MAX]) - len(pdu))))
@@ -235,6 +247,14 @@ def sweeps():
     yield [ready] + every
     for first in range(256):
         yield [ready, create(r, 0), create(r, 5), create(r, 1)] + [bytes([first]) + tail for tail in tails]
+    # each block of data, read or not, and then a Data on each number that it may carry
+    whole = [0, 5, 0x505, 0x5050505, 1]
+    for first in [16 * cmd + low for cmd in (2, 3, 6, 7) for low in range(16)]:
+        yield [ready] + [
+            pdu
+            for tail in tails
+            for pdu in [create(r, n) for n in whole] + [bytes([first]) + tail] + [data(r, n, 1) for n in whole] + [close(r, n) for n in whole]
+        ]
     for version in range(6):
         for length in range(15):
             yield [(bytes([0x50, 0]) + version.to_bytes(2, "little") + bytes(10))[:length], create(r, 5)]
@@ -258,7 +278,9 @@ def sweeps():
                 yield pdus[:3] + [data_first(r, 5, 3, 1)] + again
                 yield pdus[:3] + [close(r, 5), create(r, 5), data(r, 5, 7), data_first(r, 5, whole, 0)] + again
     for length in (0, 1, 2, PDU_MAX - 1, PDU_MAX, PDU_MAX + 1, PDU_MAX + 2, 4096, 4097, 65534, RECORD_MAX):
-        yield [ready, create(r, 0), (b"\x30" + bytes(RECORD_MAX))[:length], data(r, 0, 1)]
+        for first in (0x10, 0x20, 0x24, 0x2C, 0x30, 0x32, 0x33, 0x40, 0x60, 0x71, 0x80):
+            long = (bytes([first]) + bytes(RECORD_MAX))[:length]
+            yield [long, ready, create(r, 0), long, data(r, 0, 1), long, close(r, 0), create(r, 0), data(r, 0, 2)]
     for name in NAMES + [b"PUMP\0", b"PUMP\0\0", b"\0PUMP", b"PUMP\0PUMP"]:
         yield [create(r, 5, name), ready, create(r, 5, name), create(r, 5, name)[:-1], data(r, 5, 1)]
 

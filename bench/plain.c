@@ -56,7 +56,15 @@ enum refusal {
 
 /* ---- PDUs ---- */
 
-enum command { CREATE = 1, DATA_FIRST = 2, DATA = 3, CLOSE = 4, CAPABILITIES = 5 };
+enum command {
+    CREATE = 1,
+    DATA_FIRST = 2,
+    DATA = 3,
+    CLOSE = 4,
+    CAPABILITIES = 5,
+    DATA_FIRST_COMPRESSED = 6, /* refused, like all above it */
+    DATA_COMPRESSED = 7
+};
 
 struct pdu {
     enum command command;
@@ -164,6 +172,20 @@ static enum refusal read_pdu(const uint8_t *bytes, size_t length, struct pdu *pd
         pdu->priority = (uint8_t)middle;
     }
     return GOOD;
+}
+
+/* The channel number of a block of data, compressed or not, if all its bytes are there: also where the PDU is refused. */
+static bool block_number(const uint8_t *bytes, size_t length, uint32_t *number)
+{
+    struct cursor c = {bytes + 1, bytes + length};
+    unsigned command;
+
+    if (length == 0)
+        return false;
+    command = bytes[0] >> 4;
+    if (command != DATA_FIRST && command != DATA && command != DATA_FIRST_COMPRESSED && command != DATA_COMPRESSED)
+        return false;
+    return (bytes[0] & 3) != 3 && take_number(&c, bytes[0] & 3, number);
 }
 
 /* ---- replies: numbers go in the narrowest width ---- */
@@ -330,11 +352,26 @@ static struct answer on_create(struct manager *m, const struct pdu *pdu, const u
 
 /* What is wrong with a block stays wrong: the rest of its message must not
  * pass for messages of its own, so the channel is spoiled until it is closed. */
-static struct answer spoil(struct channel *ch, enum refusal refusal)
+static void set_spoiled(struct channel *ch)
 {
     ch->stage = SPOILED;
     ch->wanted = ch->held = 0;
+}
+
+static struct answer spoil(struct channel *ch, enum refusal refusal)
+{
+    set_spoiled(ch);
     return refused_channel(refusal, ch->number);
+}
+
+/* So is the channel of a block that could not be read, if the block says whose it is. */
+static void on_garbled(struct manager *m, const uint8_t *bytes, size_t length)
+{
+    uint32_t number;
+    struct channel *ch = block_number(bytes, length, &number) ? find(m, number) : NULL;
+
+    if (ch != NULL)
+        set_spoiled(ch);
 }
 
 static struct answer on_data(struct manager *m, const struct pdu *pdu)
@@ -450,8 +487,11 @@ static struct answer receive(struct manager *m, const uint8_t *bytes, size_t len
         return refused(UNSOUND);
 #endif
     refusal = read_pdu(bytes, length, &pdu);
-    if (refusal != GOOD)
+    if (refusal != GOOD) {
+        if (m->ready)
+            on_garbled(m, bytes, length);
         return refused(refusal);
+    }
     if (pdu.command == CAPABILITIES)
         return on_capabilities(m, &pdu, reply);
     if (!m->ready)

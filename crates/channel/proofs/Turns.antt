@@ -9,6 +9,7 @@ use lib.ListN.{length}
 use borrow.Author.Tests.{not-false}
 use Rattle.lists.proofs.Cases.{choice, true-not-false}
 use Rattle.paper.specs.Statuses.{OPENED, UNLISTED, FULL}
+use Rattle.paper.specs.declared.Refusal.{Refusal}
 use Rattle.paper.specs.declared.Refusal.the-variants.{NotOpen, AlreadyOpen}
 use Rattle.channel.specs.declared.Record.{Record}
 use Rattle.channel.specs.declared.Offer.{Offer}
@@ -32,6 +33,8 @@ use Rattle.channel.specs.Channel.{
   View,
   Shut,
   Open,
+  Room,
+  Garbled,
   Did,
   act,
   opening,
@@ -51,6 +54,7 @@ use Rattle.channel.specs.Turns.{
   partBy,
   landing,
   bringing,
+  garbling,
   closing,
   turnOf,
   viewOf,
@@ -179,6 +183,13 @@ module _ (level n : ℕ) (room : Bool) (row : Record) (part block : List ℕ) wh
   turn-rules (Name listed pri) len e = creates (row .taken) listed pri refl
   turn-rules (Block offer) len e = rw e (brings (row .taken) offer refl)
   turn-rules (End local) len e = closes (row .taken) local refl
+
+-- a garbled block on an open channel, whatever room there is
+pub garbles-rules :
+    (level n : ℕ) (room : Room) (row : Record) (part block : List ℕ) (why : Refusal)
+    → Tells n row part block (garbling row why) (act level n room (Open row part) (Garbled why))
+unfolding garbling act replyTold partTold
+garbles-rules level n room row part block why = record { view = refl; answer = refl; reply = refl }
 
 -- ---- what a turn says of the channel's number
 

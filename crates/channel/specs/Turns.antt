@@ -8,9 +8,11 @@ use mathlib.Core.List.{List, []}
 use lib.IntN.{ℤ}
 use Rattle.paper.specs.Sizes.{PART}
 use Rattle.paper.specs.Statuses.{OPENED, UNLISTED, FULL}
+use Rattle.paper.specs.declared.Refusal.{Refusal}
 use Rattle.paper.specs.declared.Refusal.the-variants.{BadList, NotOpen, AlreadyOpen}
 use Rattle.lists.specs.Bytes.{laid, zeros}
 use Rattle.laying.specs.Laying.{createResponseBytes, closeBytes, capsResponseBytes}
+use Rattle.channel.specs.declared.Stage.the-variants.{Spoiled}
 use Rattle.channel.specs.declared.Record.{Record}
 use Rattle.channel.specs.declared.Offer.{Offer}
 use Rattle.channel.specs.declared.Took.{Took}
@@ -74,6 +76,10 @@ landing n r tk = turn (changeBy r tk) (partBy tk) (answerTo n tk) NoReply
 unfoldable pub bringing : ℕ → Record → Offer → ℕ → Turn
 bringing n row offer len =
     cond (row .taken) (landing n row (took (row .stage) offer len)) (answering (Refused NotOpen (Channel n)))
+
+-- a garbled block on an open channel: the refusal concerns no channel
+unfoldable pub garbling : Record → Refusal → Turn
+garbling row why = turn (Becomes (restaged row Spoiled)) Keeps (Refused why NoChannel) NoReply
 
 -- a Close, or a close by the host
 unfoldable pub closing : ℕ → Record → Bool → Turn

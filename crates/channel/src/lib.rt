@@ -3,6 +3,7 @@
 // specs/Channel has the rules as one definition, `act`, which every step of the manager goes through. The function `act` is
 // their code, with no table, no store and no bytes in hand: it takes the channel's record and what is asked of it, and says
 // what becomes of the record and of the part, what is answered and what is sent. `take` is the part that joins messages.
+// `garbles` stands beside `act`: a block that reading refuses, on an open channel.
 use paper::MESSAGE_MAX;
 use paper::Refusal;
 ghost use mathlib.Core.Path.{_≡_};
@@ -10,7 +11,7 @@ ghost use Prim.Native.Nat.{_-_};
 ghost use Rattle.channel.specs.Answers.{concernOf, numberOf};
 ghost use Rattle.channel.specs.Stages.{added, tookFirst, took};
 ghost use Rattle.channel.specs.Channel.{classAt, openedRecord, restaged};
-ghost use Rattle.channel.specs.Turns.{answering, declining, creating, landing, bringing, closing, turnOf};
+ghost use Rattle.channel.specs.Turns.{answering, declining, creating, landing, bringing, garbling, closing, turnOf};
 
 // How far a channel's message is.
 pub enum Stage {
@@ -319,6 +320,21 @@ fn bring(number: u32, row: Record, offer: Offer, n: usize) -> Turn
     }
     let stage = row.stage;
     lands(number, row, take(stage, offer, n))
+}
+
+// A garbled block on an open channel: it is spoiled, and the refusal, one of reading, concerns no channel.
+pub fn garbles(row: Record, why: Refusal) -> Turn
+    ensures { λ r. ⌜ r ≡ garbling row why ⌝ }
+{
+    Turn {
+        change: Change::Becomes(restaged(row, Stage::Spoiled)),
+        part: Part::Keeps,
+        answer: Answer::Refused {
+            why,
+            concern: Concern::NoChannel,
+        },
+        reply: Reply::NoReply,
+    }
 }
 
 // A Close, or a close by the host.

@@ -9,17 +9,21 @@ use native.Mathlib.Omega.{arith}
 use lib.ListN.{length, take, drop, length-drop, drop-of-length-le}
 use Rattle.lists.proofs.Cases.{lt-or-le}
 use Rattle.lists.proofs.Laid.{from-to, take-least}
+use Rattle.paper.specs.declared.Refusal.{Refusal}
 use Rattle.reading.specs.declared.Extent.{Extent}
 use Rattle.reading.specs.declared.Pdu.{Pdu}
 use Rattle.reading.specs.declared.Pdu.the-variants.{CreateRequest, CreateResponse, DataFirst, Data, Close}
 use Rattle.reading.specs.declared.Pdu.the-variants.{CapsRequest, CapsResponse, Refused}
 use Rattle.reading.specs.Said.{bytesAt}
+use Rattle.reading.specs.Garbled.{carries}
+use Rattle.reading.specs.declared.Carried.{Carried}
+use Rattle.reading.specs.declared.Carried.the-variants.{NoNumber, Number}
 use Rattle.listeners.specs.Listeners.{goodList, isListed}
 use Rattle.channel.specs.declared.Ask.the-variants.{NoList, Name}
 use Rattle.channel.specs.Channel.{BadCreate, Create, LocalClose}
 use Rattle.channel.specs.Turns.{actOf}
-use Rattle.client.specs.Events.{Of, createAct, eventOf}
-use Rattle.client.specs.Asking.{told, eventAsked, createAsk, heardIn, closingOf}
+use Rattle.client.specs.Events.{Of, createAct, unread, eventOf}
+use Rattle.client.specs.Asking.{told, eventAsked, createAsk, unreadAsk, heardIn, closingOf}
 
 create-asks : (list name block : List ℕ) (pri : ℕ) → actOf (createAsk list name pri) block ≡ createAct list name pri
 unfolding createAsk createAct actOf
@@ -28,6 +32,11 @@ create-asks list name block pri = go (goodList list)
     go : (b : Bool) → actOf (cond b (Name (isListed list name) pri) NoList) block ≡ cond b (Create (isListed list name) pri) BadCreate
     go true = refl
     go false = refl
+
+unread-asked : (pdu : List ℕ) (why : Refusal) (carried : Carried) → eventAsked (unreadAsk why carried) pdu ≡ unread why carried
+unfolding eventAsked unreadAsk told unread
+unread-asked pdu why NoNumber = refl
+unread-asked pdu why (Number n) = refl
 
 pub event-asked : (list pdu : List ℕ) (read : Pdu) → eventAsked (heardIn list pdu read) pdu ≡ eventOf list pdu read
 unfolding eventAsked heardIn told eventOf actOf
@@ -38,7 +47,7 @@ event-asked list pdu (Data n block) = refl
 event-asked list pdu (Close n) = refl
 event-asked list pdu (CapsRequest version charges) = refl
 event-asked list pdu (CapsResponse version) = refl
-event-asked list pdu (Refused why) = refl
+event-asked list pdu (Refused why) = unread-asked pdu why (carries pdu)
 
 pub event-closing : (n : ℕ) (pdu : List ℕ) → eventAsked (closingOf n) pdu ≡ Of n LocalClose
 unfolding eventAsked closingOf told actOf

@@ -1,24 +1,26 @@
 -- What was decided of what was found, put back, is the step.
 -- Assumes nothing.
 use mathlib.Core.Path.{_≡_, refl, sym, ap, _∙_}
-use mathlib.Core.Bool.{Bool, true, false, cond}
+use mathlib.Core.Bool.{Bool, true, false, cond, _&&_}
 use mathlib.Core.List.{List}
 use mathlib.Core.Logic.{⊎-elim}
-use Prim.Native.Nat.{ℕ}
+use Prim.Native.Nat.{ℕ, _≤_, _<_}
 use lib.Dec.{ltb}
 use lib.ListN.{length}
 use Rattle.paper.specs.Sizes.{PARTS, STORE}
 use Rattle.paper.specs.declared.Refusal.{Refusal}
 use Rattle.paper.specs.declared.Refusal.the-variants.{WrongTime}
 use Rattle.lists.specs.Bytes.{laid}
+use Rattle.lists.proofs.Cases.{and-true, and-false, lt-or-le}
 use Rattle.channel.specs.declared.Record.{Record}
 use Rattle.channel.specs.declared.Concern.{Concern}
 use Rattle.channel.specs.declared.Concern.the-variants.{NoChannel, Channel}
 use Rattle.channel.specs.declared.Ask.{Ask}
+use Rattle.channel.specs.declared.Ask.the-variants.{NoList, Name, Block, End}
 use Rattle.channel.specs.declared.Turn.{Turn}
 use Rattle.channel.specs.Answers.{concernOf}
-use Rattle.channel.specs.Channel.{View, Did}
-use Rattle.channel.specs.Turns.{actOf, replyTold}
+use Rattle.channel.specs.Channel.{Garbled, View, Did}
+use Rattle.channel.specs.Turns.{garbling, actOf, replyTold}
 use Rattle.channel.proofs.Turns.{turn-says}
 use Rattle.table.specs.declared.Table.{Table}
 use Rattle.table.specs.declared.Found.{Found}
@@ -27,16 +29,17 @@ use Rattle.table.specs.Sound.{soundTable}
 use Rattle.deciding.specs.declared.Matter.{Matter}
 use Rattle.deciding.specs.declared.Matter.the-variants.{Unread, Caps, Asks}
 use Rattle.deciding.specs.declared.Decided.{Decided}
-use Rattle.deciding.specs.Deciding.{levelFor, taking, refusing, readying, decidedOf}
-use Rattle.deciding.proofs.Times.{late, first, early, in-time as on-time}
+use Rattle.deciding.specs.Deciding.{tooSoon, levelFor, taking, refusing, readying, decidedOf}
+use Rattle.deciding.proofs.Times.{garbled, unread, late, first, early, in-time as on-time}
 use Rattle.connection.specs.States.{State, stateOf, view, kept, placeAfter}
-use Rattle.connection.proofs.Putting.{put-stays, Does, taken, rules, turn-does}
+use Rattle.connection.proofs.Views.{view-shut}
+use Rattle.connection.proofs.Putting.{put-stays, past-blank, Does, taken, rules, turn-does, is-open, garbled-does}
 use Rattle.connection.proofs.Places.{own-number, number-after}
 use Rattle.client.specs.declared.Received.{Received}
 use Rattle.client.specs.Events.{Capabilities, Of}
 use Rattle.client.specs.Asking.{told}
 use Rattle.client.specs.Client.{Stepped, refused, finished, readied, stepped, placeFor, placeIf, resultOf, Gives}
-use Rattle.client.proofs.Steps.{in-time, too-early, too-late, made-ready}
+use Rattle.client.proofs.Steps.{in-time, too-early, garbled-shut, too-late, made-ready}
 
 -- what the rules did, put back
 finished-does :
@@ -44,6 +47,25 @@ finished-does :
     → finished n st v d ≡ record { state = next; answer = t .answer; reply = replyTold n (t .reply) }
 unfolding finished
 finished-does n st next v d t x = rw (x .state, x .answer, x .reply) refl
+
+-- the tests of a garbled block: ready, whole, open
+all-hold : (ready taken : Bool) → ready ≡ true → taken ≡ true → ((ready && true) && taken) ≡ true
+all-hold ready taken e f = rw (e, f)
+
+shut-fails : (ready taken : Bool) → taken ≡ false → ((ready && true) && taken) ≡ false
+shut-fails ready taken e = rw (e, and-true ready, and-false ready)
+
+early-fails : (ready taken : Bool) → ready ≡ false → ((ready && true) && taken) ≡ false
+early-fails ready taken e = rw e
+
+-- what is asked too early is refused with 7
+asked-soon : (ask : Ask) (block : List ℕ) → tooSoon (actOf ask block) ≡ WrongTime
+unfolding tooSoon actOf
+asked-soon NoList block = refl
+asked-soon (Name listed pri) block = refl
+asked-soon (Block offer) block = refl
+asked-soon (End true) block = refl
+asked-soon (End false) block = refl
 
 module _ (n : ℕ) (t : Table) (store : List ℕ) (long : length (t .records) ≡ PARTS) (h : length store ≡ STORE)
     (sound : soundTable t ≡ true) where
@@ -109,16 +131,58 @@ module _ (n : ℕ) (t : Table) (store : List ℕ) (long : length (t .records) �
             (says .1),
       )
 
-  unread :
+  -- a garbled block, on an open channel and on one that isn't
+  garbled-open :
+      (why : Refusal) (block : List ℕ) → t .ready ≡ true → numberPlace n t < PARTS
+      → Comes-to (stepped (stateOf t store) (Of n (Garbled why))) block (decided (Unread why true) block)
+  unfolding concernOf garbling
+  garbled-open why block e l =
+      let st = stateOf t store in
+      let turn = garbling found why in
+      let spoils = garbled (t .ready) (t .level) n (ltb home PARTS) found (length block) why true (all-hold (t .ready) (found .taken) e (is-open n t store long h l)) in
+      rw (← spoils) (
+        in-time st n (Garbled why) (view n st) e refl
+            ∙ finished-does n st _ (view n st) _ turn (garbled-does n t store long h why block l),
+        no-place (taking (t .ready) (t .level) turn) refl,
+      )
+
+  garbled-refused :
+      (why : Refusal) (block : List ℕ) → ((t .ready && true) && found .taken) ≡ false
+      → stepped (stateOf t store) (Of n (Garbled why)) ≡ refused (stateOf t store) why
+      → Comes-to (stepped (stateOf t store) (Of n (Garbled why))) block (decided (Unread why true) block)
+  garbled-refused why block e f =
+      rw (f, ← unread (t .ready) (t .level) n (ltb home PARTS) found (length block) why true e) (refused-step why block)
+
+  is-shut : PARTS ≤ numberPlace n t → found .taken ≡ false
+  is-shut l = ap (λ (r : Record). r .taken) (past-blank n t (rw long l))
+
+  garbled-step :
       (why : Refusal) (block : List ℕ)
-      → Comes-to (stepped (stateOf t store) (told n (Unread why) block)) block (decided (Unread why) block)
-  unfolding told stepped decidedOf
-  unread why block = refused-step why block
+      → Comes-to (stepped (stateOf t store) (Of n (Garbled why))) block (decided (Unread why true) block)
+  unfolding tooSoon
+  garbled-step why block = go (t .ready) refl
+    where
+      go : (b : Bool) → t .ready ≡ b → Comes-to (stepped (stateOf t store) (Of n (Garbled why))) block (decided (Unread why true) block)
+      go true e =
+          ⊎-elim (garbled-open why block e)
+          (λ l. garbled-refused why block (shut-fails (t .ready) (found .taken) (is-shut l))
+          (garbled-shut (stateOf t store) n why e (view-shut n (stateOf t store) (numberPlace n t) refl l)))
+          (lt-or-le (numberPlace n t) PARTS)
+      go false e = garbled-refused why block (early-fails (t .ready) (found .taken) e) (too-early (stateOf t store) n (Garbled why) e)
+
+  unread-step :
+      (why : Refusal) (block : List ℕ)
+      → Comes-to (stepped (stateOf t store) (told n (Unread why false) block)) block (decided (Unread why false) block)
+  unfolding told stepped
+  unread-step why block =
+      rw (← unread (t .ready) (t .level) n (ltb home PARTS) found (length block) why false (rw (and-false (t .ready)) refl))
+      (refused-step why block)
 
   pub decided-step :
       (matter : Matter) (block : List ℕ) → Comes-to (stepped (stateOf t store) (told n matter block)) block (decided matter block)
   unfolding told
-  decided-step (Unread why) block = unread why block
+  decided-step (Unread why true) block = garbled-step why block
+  decided-step (Unread why false) block = unread-step why block
   decided-step (Caps version) block = go (t .ready) refl
     where
       go : (b : Bool) → t .ready ≡ b → Comes-to (stepped (stateOf t store) (Capabilities version)) block (decided (Caps version) block)
@@ -135,6 +199,7 @@ module _ (n : ℕ) (t : Table) (store : List ℕ) (long : length (t .records) �
       go false e =
           rw (
             too-early (stateOf t store) n (actOf ask block) e,
+            asked-soon ask block,
             ← early (t .ready) (t .level) n (ltb home PARTS) found
                 (length block) ask e,
           ) (refused-step WrongTime block)

@@ -2,7 +2,8 @@
 //
 // The host keeps the table and the store. `start` makes both; then each received PDU goes to `receive` and each close by
 // the host to `local_close`, with the table of the call before. A refusal writes nothing to store and reply and changes no
-// channel, but that refusals 10, 11 and 12 turn the one channel's stage to spoiled. Every entry takes anything.
+// channel, but that refusals 10, 11 and 12 turn the one channel's stage to spoiled, and so do 2 to 5 for a block of data that
+// carries its channel's number whole. Every entry takes anything.
 use channel::Answer;
 use channel::Ask;
 use channel::Concern;
@@ -11,6 +12,7 @@ use channel::Reply;
 use deciding::Matter;
 use paper::PARTS;
 use paper::Refusal;
+use reading::Carried;
 use reading::Extent;
 use reading::Pdu;
 use table::Table;
@@ -20,11 +22,12 @@ ghost use lib.ListN.{length};
 ghost use Rattle.paper.specs.Sizes.{PARTS, STORE};
 ghost use Rattle.lists.specs.Bytes.{laid};
 ghost use Rattle.reading.specs.Reading.{readPdu};
+ghost use Rattle.reading.specs.Garbled.{carries};
 ghost use Rattle.channel.specs.Answers.{concernOf};
 ghost use Rattle.channel.specs.Turns.{replyTold};
 ghost use Rattle.table.specs.Sound.{soundTable};
 ghost use Rattle.connection.specs.States.{stateOf};
-ghost use Rattle.client.specs.Asking.{nowhere, createAsk, heardIn, closingOf, told, eventAsked};
+ghost use Rattle.client.specs.Asking.{nowhere, createAsk, unreadAsk, heardIn, closingOf, told, eventAsked};
 ghost use Rattle.client.specs.Client.{Gives, stepped, placeIf, badCall, called, received, locallyClosed, started, storeStarted};
 
 // Whether Start did its work.
@@ -81,13 +84,23 @@ fn create_ask(list: &[u8], name: &[u8], pri: u8) -> Ask
     }
 }
 
+// What a PDU asks that reading refuses, by the number that it carries.
+fn unread(pdu: &[u8], why: Refusal) -> Asked
+    ensures { λ r. ⌜ r ≡ unreadAsk why (carries (now (pdu .entry))) ⌝ }
+{
+    match reading::carries(pdu) {
+        Carried::NoNumber => bare(0, Matter::Unread { why, whole: false }),
+        Carried::Number(number) => bare(number, Matter::Unread { why, whole: true }),
+    }
+}
+
 // What a PDU from the server asks, with the names that the host listens for. Responses are never read in a PDU from the
 // server.
 pub fn heard(list: &[u8], pdu: &[u8]) -> Asked
     ensures { λ r. ⌜ r ≡ heardIn (now (list .entry)) (now (pdu .entry)) (readPdu true (now (pdu .entry))) ⌝ }
 {
     match reading::read(pdu, true) {
-        Pdu::Refused(why) => bare(0, Matter::Unread(why)),
+        Pdu::Refused(why) => unread(pdu, why),
         Pdu::CapsRequest {
             version,
             charges: _,
@@ -119,8 +132,20 @@ pub fn heard(list: &[u8], pdu: &[u8]) -> Asked
         Pdu::CreateResponse {
             number: _,
             status: _,
-        } => bare(0, Matter::Unread(Refusal::WrongTime)),
-        Pdu::CapsResponse { version: _ } => bare(0, Matter::Unread(Refusal::WrongTime)),
+        } => bare(
+            0,
+            Matter::Unread {
+                why: Refusal::WrongTime,
+                whole: false,
+            },
+        ),
+        Pdu::CapsResponse { version: _ } => bare(
+            0,
+            Matter::Unread {
+                why: Refusal::WrongTime,
+                whole: false,
+            },
+        ),
     }
 }
 

@@ -19,7 +19,7 @@ use Rattle.channel.specs.declared.Offer.the-variants.{First, More}
 use Rattle.channel.specs.declared.Took.{Took}
 use Rattle.channel.specs.declared.Took.the-variants.{Bars, Spoils, Holds, Finishes}
 use Rattle.channel.specs.Stages.{added, tookFirst, took}
-use Rattle.channel.specs.Channel.{Act, BadCreate, Create, Bring, Closing, LocalClose, View, Shut, Open, Room, NoRoom}
+use Rattle.channel.specs.Channel.{Act, BadCreate, Create, Bring, Garbled, Closing, LocalClose, View, Shut, Open, Room, NoRoom}
 use Rattle.channel.specs.Channel.{Spare, classAt, openedRecord, restaged, opening, stageAfter, partAfter, landed, act}
 use Rattle.table.specs.Table.{holds, recordAt, numberPlace}
 use Rattle.table.specs.Sound.{goodStage}
@@ -79,12 +79,17 @@ opening-fits level n pri NoRoom h = tt
 opening-fits level n pri (Spare p) h =
     (holds-own n (openedRecord level n pri) refl refl, (refl, record { class = class-fine level pri h; stage = refl }))
 
+-- spoiled, with its part as it was
+spoiled-fits : (n : ℕ) (room : Room) (r : Record) (b : List ℕ) → Known n (Open r b) → Fits n room (Open r b) (Open (restaged r Spoiled) b)
+unfolding goodStage
+spoiled-fits n room r b k = (sym (other-stage n r Spoiled) ∙ k .0, (refl, restaged-fine r Spoiled (k .1) refl))
+
 landed-fits :
     (n : ℕ) (room : Room) (r : Record) (b bytes : List ℕ) → holds n r ≡ true → Fine r → (t : Took) → GoodTook t
     → Fits n room (Open r b) (landed n r b bytes t .view)
 unfolding landed stageAfter partAfter restaged goodStage
 landed-fits n room r b bytes h f (Bars why) g = (h, (refl, f))
-landed-fits n room r b bytes h f (Spoils why) g = (sym (other-stage n r Spoiled) ∙ h, (refl, restaged-fine r Spoiled f refl))
+landed-fits n room r b bytes h f (Spoils why) g = spoiled-fits n room r b (h, f)
 landed-fits n room r b bytes h f (Holds wanted at held) g = (
   sym (other-stage n r (Joining wanted held))
       ∙ h,
@@ -108,6 +113,8 @@ act-fits level n room Shut (Bring offer bytes) k z = tt
 act-fits level n room (Open r b) (Bring offer bytes) k z =
     landed-fits n room r b bytes (k .0) (k .1) (took (r .stage) offer (length bytes)) (took-good (r .stage) offer (length bytes)
     (k .1 .stage))
+act-fits level n room Shut (Garbled why) k z = tt
+act-fits level n room (Open r b) (Garbled why) k z = spoiled-fits n room r b k
 act-fits level n room Shut Closing k z = tt
 act-fits level n room (Open r b) Closing k z = tt
 act-fits level n room Shut LocalClose k z = tt

@@ -10,6 +10,7 @@ use borrow.Author.Tests.{lt-ltb, le-ltb}
 use lib.Dec.{ltb}
 use lib.ListN.{length}
 use Rattle.paper.specs.Sizes.{PART, PARTS, STORE}
+use Rattle.paper.specs.declared.Refusal.{Refusal}
 use Rattle.lists.specs.Bytes.{zeros}
 use Rattle.lists.proofs.Cases.{lt-or-le, true-not-false}
 use Rattle.channel.specs.declared.Record.{Record}
@@ -20,10 +21,10 @@ use Rattle.channel.specs.declared.Change.the-variants.{Stays, Becomes, Frees}
 use Rattle.channel.specs.declared.Part.{Part}
 use Rattle.channel.specs.declared.Part.the-variants.{Keeps, Takes, Clears}
 use Rattle.channel.specs.declared.Turn.{Turn}
-use Rattle.channel.specs.Channel.{blank, Act, BadCreate, Create, Bring, Closing, LocalClose, View, Shut, Open, Room}
+use Rattle.channel.specs.Channel.{blank, Act, BadCreate, Create, Bring, Garbled, Closing, LocalClose, View, Shut, Open, Room}
 use Rattle.channel.specs.Channel.{NoRoom, Spare, Did, act, opening}
-use Rattle.channel.specs.Turns.{turnOf, viewOf, roomOf, actOf, partTold, replyTold}
-use Rattle.channel.proofs.Turns.{Comes, Tells, turn-rules, view-open as seen-open}
+use Rattle.channel.specs.Turns.{garbling, turnOf, viewOf, roomOf, actOf, partTold, replyTold}
+use Rattle.channel.proofs.Turns.{Comes, Tells, turn-rules, garbles-rules, view-open as seen-open}
 use Rattle.table.specs.declared.Table.{Table}
 use Rattle.table.specs.Table.{numberPlace, freePlace, recordAt, withRecord, homePlace, siteOf, nextOf, putBack}
 use Rattle.table.proofs.Records.{with-past, at-past, number-holds}
@@ -42,6 +43,7 @@ unfolding act
 any-room level n r s row part BadCreate = refl
 any-room level n r s row part (Create listed pri) = refl
 any-room level n r s row part (Bring offer bytes) = refl
+any-room level n r s row part (Garbled why) = refl
 any-room level n r s row part Closing = refl
 any-room level n r s row part LocalClose = refl
 
@@ -51,6 +53,7 @@ no-room level n BadCreate = refl
 no-room level n (Create true pri) = refl
 no-room level n (Create false pri) = refl
 no-room level n (Bring offer bytes) = refl
+no-room level n (Garbled why) = refl
 no-room level n Closing = refl
 no-room level n LocalClose = refl
 
@@ -166,29 +169,47 @@ module _ (n : ℕ) (t : Table) (store : List ℕ) (long : length (t .records) �
   abbrev pub taken : Ask → List ℕ → Turn
   taken ask block = turnOf (t .level) n (ltb (homePlace n t) PARTS) (recordAt t (numberPlace n t)) ask (length block)
 
-  open-does :
-      (ask : Ask) (block : List ℕ) → numberPlace n t < PARTS
-      → Does n here (left t store home block (taken ask block)) (taken ask block) (view n here) (rules ask block)
+  at-home : numberPlace n t < PARTS → homePlace n t ≡ numberPlace n t
   unfolding homePlace
-  open-does ask block l =
-      let at-home : homePlace n t ≡ numberPlace n t = rw (lt-ltb (numberPlace n t) PARTS l) refl in
-      let is-open = holds-says n found (number-holds n t (rw long l)) .0 in
-      let place = numberPlace n t in
-      let sees = seen-open found (part store place) is-open in
-      let tells = rw (
-        at-home,
-        sees,
-        any-room (t .level) n (roomOf (ltb place PARTS) (part store place)) (roomIn here) found
-            (part store place) (actOf ask block),
-      ) at (turn-rules (t .level) n (ltb home PARTS) found (part store home) block ask
-      (length block) refl) in
-      rw (view-open n here place refl l, at-home)
+  at-home l = rw (lt-ltb (numberPlace n t) PARTS l) refl
+
+  pub is-open : numberPlace n t < PARTS → found .taken ≡ true
+  is-open l = holds-says n found (number-holds n t (rw long l)) .0
+
+  -- a turn that tells what is done to the open channel, whatever is asked
+  open-turn :
+      (a : Act) (block : List ℕ) (turn : Turn) → numberPlace n t < PARTS
+      → Tells n found (part store (numberPlace n t)) block turn (act (t .level) n (roomIn here) (Open found (part store (numberPlace n t))) a)
+      → Does n here (left t store home block turn) turn (view n here) (act (t .level) n (roomIn here) (view n here) a)
+  open-turn a block turn l tells =
+      rw (view-open n here (numberPlace n t) refl l, at-home l)
       (record {
-        state = open-saved n t store place found long h l refl refl is-open block (turnOf (t .level) n
-            (ltb place PARTS) found ask (length block)) _ (tells .view);
+        state = open-saved n t store (numberPlace n t) found long h l refl refl (is-open l) block turn _ (tells .view);
         answer = tells .answer;
         reply = tells .reply;
       })
+
+  open-does :
+      (ask : Ask) (block : List ℕ) → numberPlace n t < PARTS
+      → Does n here (left t store home block (taken ask block)) (taken ask block) (view n here) (rules ask block)
+  open-does ask block l =
+      let place = numberPlace n t in
+      let tells = rw (
+        seen-open found (part store place) (is-open l),
+        any-room (t .level) n (roomOf (ltb home PARTS) (part store place)) (roomIn here) found
+            (part store place) (actOf ask block),
+      ) at (turn-rules (t .level) n (ltb home PARTS) found (part store place) block ask
+      (length block) refl) in
+      open-turn (actOf ask block) block (taken ask block) l tells
+
+  -- a garbled block on an open channel
+  pub garbled-does :
+      (why : Refusal) (block : List ℕ) → numberPlace n t < PARTS
+      → Does n here (left t store home block (garbling found why)) (garbling found why) (view n here)
+      (act (t .level) n (roomIn here) (view n here) (Garbled why))
+  garbled-does why block l =
+      open-turn (Garbled why) block (garbling found why) l
+      (garbles-rules (t .level) n (roomIn here) found (part store (numberPlace n t)) block why)
 
   shut-does :
       (ask : Ask) (block : List ℕ) → PARTS ≤ numberPlace n t

@@ -12,7 +12,8 @@ use Rattle.channel.specs.declared.Change.{Change}
 use Rattle.channel.specs.declared.Change.the-variants.{Stays, Becomes, Frees}
 use Rattle.channel.specs.declared.Part.{Part}
 use Rattle.channel.specs.declared.Part.the-variants.{Keeps, Takes, Clears}
-use Rattle.channel.specs.Channel.{blank, Act, BadCreate, Create, Bring, Closing, LocalClose, View, Shut, Open, Room, NoRoom, Spare}
+use Rattle.channel.specs.Channel.{blank, Act, BadCreate, Create, Bring, Garbled, Closing, LocalClose, View, Shut, Open}
+use Rattle.channel.specs.Channel.{Room, NoRoom, Spare}
 use Rattle.table.specs.declared.Table.{Table}
 use Rattle.table.specs.Table.{numberPlace, freePlace, recordAt, withRecord}
 use Rattle.table.specs.Sound.{soundTable}
@@ -70,6 +71,7 @@ abbrev pub FineAct : Act → Type 0
 FineAct BadCreate = Unit {0}
 FineAct (Create listed pri) = pri ≤ 3
 FineAct (Bring offer bytes) = Unit {0}
+FineAct (Garbled why) = Unit {0}
 FineAct Closing = Unit {0}
 FineAct LocalClose = Unit {0}
 

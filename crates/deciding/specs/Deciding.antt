@@ -1,6 +1,6 @@
 -- What a matter comes to: refusal 7, the Capabilities request, and the rules of one channel.
 use Prim.Native.Nat.{ℕ, min}
-use mathlib.Core.Bool.{Bool, true, cond}
+use mathlib.Core.Bool.{Bool, true, cond, _&&_}
 use Rattle.paper.specs.declared.Refusal.{Refusal}
 use Rattle.paper.specs.declared.Refusal.the-variants.{WrongTime}
 use Rattle.channel.specs.declared.Record.{Record}
@@ -10,7 +10,8 @@ use Rattle.channel.specs.declared.Change.the-variants.{Stays}
 use Rattle.channel.specs.declared.Part.the-variants.{Keeps}
 use Rattle.channel.specs.declared.Reply.the-variants.{Version}
 use Rattle.channel.specs.declared.Turn.{Turn}
-use Rattle.channel.specs.Turns.{turn, answering, turnOf, OUR-VERSION}
+use Rattle.channel.specs.Channel.{Act, BadCreate, Create, Bring, Garbled, Closing, LocalClose}
+use Rattle.channel.specs.Turns.{turn, answering, garbling, turnOf, OUR-VERSION}
 use Rattle.deciding.specs.declared.Matter.{Matter}
 use Rattle.deciding.specs.declared.Matter.the-variants.{Unread, Caps, Asks}
 use Rattle.deciding.specs.declared.Decided.{Decided}
@@ -19,8 +20,17 @@ use Rattle.deciding.specs.declared.Decided.{Decided}
 abbrev pub unlessReady : {A : Type 0} → Bool → (Refusal → A) → A → A
 unlessReady ready refuse goes = cond ready (refuse WrongTime) goes
 
-abbrev pub onceReady : {A : Type 0} → Bool → (Refusal → A) → A → A
-onceReady ready refuse goes = cond ready goes (refuse WrongTime)
+-- what an event of a channel is refused with when not ready: a garbled block isn't readable, and has its own refusal then too
+unfoldable pub tooSoon : Act → Refusal
+tooSoon BadCreate = WrongTime
+tooSoon (Create listed pri) = WrongTime
+tooSoon (Bring offer bytes) = WrongTime
+tooSoon (Garbled why) = why
+tooSoon Closing = WrongTime
+tooSoon LocalClose = WrongTime
+
+abbrev pub onceReady : {A : Type 0} → Bool → Act → (Refusal → A) → A → A
+onceReady ready a refuse goes = cond ready goes (refuse (tooSoon a))
 
 -- "The level in use is the smaller of the server's version and 2."
 abbrev pub levelFor : ℕ → ℕ
@@ -39,7 +49,8 @@ unfoldable pub readying : ℕ → Decided
 readying version = taking true (levelFor version) (turn Stays Keeps (Ready (levelFor version)) Version)
 
 unfoldable pub decidedOf : Bool → ℕ → ℕ → Bool → Record → Matter → ℕ → Decided
-decidedOf ready level n room row (Unread why) len = refusing ready level why
+decidedOf ready level n room row (Unread why whole) len =
+    cond ((ready && whole) && row .taken) (taking ready level (garbling row why)) (refusing ready level why)
 decidedOf ready level n room row (Caps version) len = unlessReady ready (refusing ready level) (readying version)
 decidedOf ready level n room row (Asks ask) len =
-    onceReady ready (refusing ready level) (taking ready level (turnOf level n room row ask len))
+    cond ready (taking ready level (turnOf level n room row ask len)) (refusing ready level WrongTime)

@@ -17,8 +17,8 @@ ghost use Rattle.deciding.specs.Deciding.{levelFor, refusing, readying, 
 
 // What is to be decided.
 pub enum Matter {
-    // A PDU that reading refuses.
-    Unread(Refusal),
+    // A PDU that reading refuses, and whether it carries its channel's number whole: then it is garbled.
+    Unread { why: Refusal, whole: bool },
     // A Capabilities request of a version.
     Caps(u16),
     // What is asked of a channel.
@@ -83,7 +83,13 @@ pub fn decide(
     ensures { λ r. ⌜ r ≡ decidedOf ready level number room row matter n ⌝ }
 {
     match matter {
-        Matter::Unread(why) => refuses(ready, level, why),
+        Matter::Unread { why, whole } => {
+            if ready & whole & row.taken {
+                let turn = channel::garbles(row, why);
+                return Decided { ready, level, turn };
+            }
+            refuses(ready, level, why)
+        }
         Matter::Caps(version) => {
             if ready {
                 return refuses(ready, level, Refusal::WrongTime);

@@ -43,7 +43,7 @@ use Rattle.connection.proofs.Frame.{kept-long}
 use Rattle.steps.specs.States.{FineEvent}
 use Rattle.steps.proofs.Channels.{step-own, step-other, step-steady}
 use Rattle.steps.proofs.Calm.{steady-sane}
-use Rattle.steps.proofs.Widths.{eventOfRead, encoded-event}
+use Rattle.steps.proofs.Widths.{eventOfValue, encoded-event}
 use Rattle.demands.specs.Trace.{consIf, seen, keep}
 use Rattle.demands.specs.Runs.{Call, after, told, Told, toldTo, ends, eventIn, isEventOf, ownEvents, firstOf}
 use Rattle.demands.specs.Cut.{Cut, cutOf, Cuts, last-one, one-more, CutByUs, CutFromC, NoneRefused, eventOfPdu, cutEvents, toldFor, HandedUpOnce}
@@ -106,7 +106,7 @@ module _ (n : ℕ) (m : List ℕ) (small-number : n < NUMBERS) (short-enough : l
   block-event :
       (at : ℕ) (t : Bool) → isFirst (length m) at ≡ t
       → eventOfPdu (cutPdu n m at) ≡ Of n (Bring (cond t (First (length m)) More) (block n m at))
-  unfolding eventOfPdu eventOfRead
+  unfolding eventOfPdu eventOfValue
   block-event at true e =
       let p = cut-first n m at e in
       let fits = subst (λ (b : List ℕ). length b ≤ PDU-MAX) p (cut-fits n m at) in

@@ -16,6 +16,9 @@ use Rattle.paper.specs.declared.Refusal.the-variants.{TooLong, OverLimit, PastL
 use Rattle.lists.specs.Bytes.{laid}
 use Rattle.lists.proofs.Cases.{choice, lt-or-le}
 use Rattle.lists.proofs.Laid.{laid-eq, length-laid, length-zeros, front}
+use Rattle.reading.specs.Garbled.{carries}
+use Rattle.reading.specs.declared.Carried.{Carried}
+use Rattle.reading.specs.declared.Carried.the-variants.{NoNumber, Number}
 use Rattle.reading.specs.Reading.{readPdu}
 use Rattle.reading.specs.Said.{bytesAt}
 use Rattle.reading.specs.declared.Extent.{Extent}
@@ -30,10 +33,10 @@ use Rattle.channel.specs.declared.Offer.{Offer}
 use Rattle.channel.specs.declared.Offer.the-variants.{First, More}
 use Rattle.channel.specs.declared.Took.the-variants.{Bars, Spoils, Holds, Finishes}
 use Rattle.channel.specs.Stages.{added, tookFirst, took}
-use Rattle.channel.specs.Channel.{Act, BadCreate, Create, Bring, Closing, LocalClose, View, Shut, Open, Did, openedRecord, restaged, opening, stageAfter, partAfter, answerTo, landed, act}
+use Rattle.channel.specs.Channel.{Act, BadCreate, Create, Bring, Garbled, Closing, LocalClose, View, Shut, Open, Did, openedRecord, restaged, opening, stageAfter, partAfter, answerTo, landed, act}
 use Rattle.table.specs.Sound.{goodStage}
 use Rattle.table.proofs.Soundness.{joining-bounds, joining-good}
-use Rattle.client.specs.Events.{Event, Unreadable, Capabilities, Of, createAct, eventOf}
+use Rattle.client.specs.Events.{Event, Unreadable, Capabilities, Of, createAct, unread, eventOf}
 use Rattle.demands.specs.Runs.{Entry, receives, closes, firstOf, eventIn}
 use Rattle.demands.specs.Joining.{Join, Off, Waiting, Gathering, Dead, Brings, NoMessage, StillToCome, Complete, Joined, still, gathered, startsWith, goesOn, joins, broughtBy, brought}
 use Rattle.demands.proofs.Machine.{roomFlag, toldBy}
@@ -152,6 +155,7 @@ FineBlock (Capabilities version) = Unit {0}
 FineBlock (Of n BadCreate) = Unit {0}
 FineBlock (Of n (Create listed pri)) = Unit {0}
 FineBlock (Of n (Bring offer block)) = length block ≤ PART
+FineBlock (Of n (Garbled why)) = Unit {0}
 FineBlock (Of n Closing) = Unit {0}
 FineBlock (Of n LocalClose) = Unit {0}
 
@@ -174,6 +178,23 @@ off-bring :
     → Agrees (act l n (roomFlag false) Shut (Bring offer block)) (joins Off (Bring offer block))
 unfolding act joins broughtBy
 off-bring l n offer block = record { stands = refl; brings = refl; sound = tt }
+
+off-garbled : (l n : ℕ) (why : Refusal) → Agrees (act l n (roomFlag false) Shut (Garbled why)) (joins Off (Garbled why))
+unfolding act joins broughtBy
+off-garbled l n why = record { stands = refl; brings = refl; sound = tt }
+
+-- an open channel is dead after a garbled block
+pub open-garbled : (s : Stage) (part : List ℕ) (why : Refusal) → joins (joinAt s part) (Garbled why) ≡ still Dead
+unfolding joins
+open-garbled Idle part why = refl
+open-garbled (Joining wanted held) part why = refl
+open-garbled Spoiled part why = refl
+
+garbled-agrees :
+    (l n : ℕ) (r : Record) (part : List ℕ) (why : Refusal) → length part ≡ PART
+    → Agrees (act l n (roomFlag false) (Open r part) (Garbled why)) (still Dead)
+unfolding act restaged goodStage broughtBy
+garbled-agrees l n r part why whole = record { stands = refl; brings = refl; sound = (whole, refl) }
 
 bad-create : (j : Join) → joins j BadCreate ≡ still j
 unfolding joins
@@ -198,6 +219,8 @@ act-joins l n m Shut (Create listed pri) s f = create-agrees l n pri listed
 act-joins l n m (Open r part) (Create listed pri) s f = rw (open-create (r .stage) part listed pri) (stays-agrees (Open r part) s _ refl refl)
 act-joins l n m Shut (Bring offer block) s f = off-bring l n offer block
 act-joins l n m (Open r part) (Bring offer block) s f = bring-agrees n r part (s .0) (r .stage) refl (s .1) offer block f
+act-joins l n m Shut (Garbled why) s f = off-garbled l n why
+act-joins l n m (Open r part) (Garbled why) s f = rw (open-garbled (r .stage) part why) (garbled-agrees l n r part why (s .0))
 act-joins l n m Shut Closing s f = rw (close-off Off .0) (stays-agrees Shut s _ refl refl)
 act-joins l n m (Open r part) Closing s f = rw (close-off (joinAt (r .stage) part) .0) (stays-agrees Shut tt _ refl refl)
 act-joins l n m Shut LocalClose s f = rw (close-off Off .1) (stays-agrees Shut s _ refl refl)
@@ -225,6 +248,11 @@ create-block : (n : ℕ) (list name : List ℕ) (pri : ℕ) → FineBlock (Of n 
 unfolding createAct
 create-block n list name pri = choice (λ (a : Act). FineBlock (Of n a)) (goodList list) (λ e. tt) (λ e. tt)
 
+unread-block : (why : Refusal) (carried : Carried) → FineBlock (unread why carried)
+unfolding unread
+unread-block why NoNumber = tt
+unread-block why (Number n) = tt
+
 short-blocks : (list pdu : List ℕ) → length pdu ≤ PDU-MAX → (p : Pdu) → Placed pdu p → FineBlock (eventOf list pdu p)
 unfolding eventOf
 short-blocks list pdu k (CreateRequest n class name) h = create-block n list (bytesAt pdu name) class
@@ -234,16 +262,16 @@ short-blocks list pdu k (Data n block) h = block-fits pdu block h k
 short-blocks list pdu k (Close n) h = tt
 short-blocks list pdu k (CapsRequest version charges) h = tt
 short-blocks list pdu k (CapsResponse version) h = tt
-short-blocks list pdu k (Refused why) h = tt
+short-blocks list pdu k (Refused why) h = unread-block why (carries pdu)
 
-unread-block : (list pdu : List ℕ) → FineBlock (eventOf list pdu (Refused TooLong))
+long-block : (list pdu : List ℕ) → FineBlock (eventOf list pdu (Refused TooLong))
 unfolding eventOf
-unread-block list pdu = tt
+long-block list pdu = unread-block TooLong (carries pdu)
 
 read-blocks : (list pdu : List ℕ) → FineBlock (eventOf list pdu (readPdu true pdu))
 read-blocks list pdu =
     ⊎-elim
-    (λ (h : PDU-MAX < length pdu). rw (long-unread true pdu h) (unread-block list pdu))
+    (λ (h : PDU-MAX < length pdu). rw (long-unread true pdu h) (long-block list pdu))
     (λ (h : length pdu ≤ PDU-MAX). short-blocks list pdu h (readPdu true pdu) (placed pdu true))
     (lt-or-le PDU-MAX (length pdu))
 

@@ -7,6 +7,7 @@ pub mod Orders
 pub mod Twice
 pub mod Sanity
 pub mod Cut
+pub mod Garbled
 pub mod Managers
 pub mod Strict
 pub mod Third

@@ -26,7 +26,7 @@ use Rattle.channel.specs.declared.Took.the-variants.{Bars, Spoils, Holds, Finis
 use Rattle.channel.specs.declared.Answer.{Answer}
 use Rattle.channel.specs.declared.Answer.the-variants.{Ready, Opened, Declined, Held, Message, Closed, Ignored, Refused}
 use Rattle.channel.specs.Stages.{took}
-use Rattle.channel.specs.Channel.{Act, BadCreate, Create, Bring, Closing, LocalClose, View, Shut, Open, Room, NoRoom, Spare, Did, opening, answerTo, landed, act}
+use Rattle.channel.specs.Channel.{Act, BadCreate, Create, Bring, Garbled, Closing, LocalClose, View, Shut, Open, Room, NoRoom, Spare, Did, opening, answerTo, landed, act}
 use Rattle.table.specs.Table.{freePlace, recordAt, withRecord}
 use Rattle.table.proofs.Records.{free-at}
 use Rattle.store.specs.Parts.{part}
@@ -115,11 +115,13 @@ flag-same l n full Shut BadCreate = refl
 flag-same l n full Shut (Create true pri) = refl
 flag-same l n full Shut (Create false pri) = refl
 flag-same l n full Shut (Bring offer bytes) = refl
+flag-same l n full Shut (Garbled why) = refl
 flag-same l n full Shut Closing = refl
 flag-same l n full Shut LocalClose = refl
 flag-same l n full (Open r b) BadCreate = refl
 flag-same l n full (Open r b) (Create listed pri) = refl
 flag-same l n full (Open r b) (Bring offer bytes) = refl
+flag-same l n full (Open r b) (Garbled why) = refl
 flag-same l n full (Open r b) Closing = refl
 flag-same l n full (Open r b) LocalClose = refl
 
@@ -168,11 +170,13 @@ act-up l n room Shut BadCreate st = refl
 act-up l n room Shut (Create true pri) st = opening-up l n pri room st
 act-up l n room Shut (Create false pri) st = refl
 act-up l n room Shut (Bring offer bytes) st = refl
+act-up l n room Shut (Garbled why) st = refl
 act-up l n room Shut Closing st = refl
 act-up l n room Shut LocalClose st = refl
 act-up l n room (Open r b) BadCreate st = refl
 act-up l n room (Open r b) (Create listed pri) st = refl
 act-up l n room (Open r b) (Bring offer bytes) st = landed-up n r b bytes (took (r .stage) offer (length bytes)) st
+act-up l n room (Open r b) (Garbled why) st = refl
 act-up l n room (Open r b) Closing st = refl
 act-up l n room (Open r b) LocalClose st = refl
 
@@ -201,11 +205,13 @@ act-short l n room Shut BadCreate = omega arith
 act-short l n room Shut (Create true pri) = opening-short l n pri room
 act-short l n room Shut (Create false pri) = response-short n UNLISTED
 act-short l n room Shut (Bring offer bytes) = omega arith
+act-short l n room Shut (Garbled why) = omega arith
 act-short l n room Shut Closing = omega arith
 act-short l n room Shut LocalClose = omega arith
 act-short l n room (Open r b) BadCreate = omega arith
 act-short l n room (Open r b) (Create listed pri) = omega arith
 act-short l n room (Open r b) (Bring offer bytes) = landed-short n r b bytes (took (r .stage) offer (length bytes))
+act-short l n room (Open r b) (Garbled why) = omega arith
 act-short l n room (Open r b) Closing = close-short n
 act-short l n room (Open r b) LocalClose = close-short n
 

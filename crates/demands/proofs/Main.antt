@@ -4,6 +4,7 @@
 use Rattle.demands.specs.Demand1.{AnyOrderOfCalls, BadInputGetsItsNumber, ARefusalLeavesAll}
 use Rattle.demands.specs.Demand2.{PdusAreReadSo, PdusAreWrittenSo, StepsAreSo, WhatWeWriteWeReadBack, CutByUsIsHandedUpOnce}
 use Rattle.demands.specs.Demand3.{AConnectionJustMadeReady, TwoOrdersMeanThis, EitherOrderIsTheSame, NothingTwice}
+use Rattle.demands.specs.Garbled.{WhichAreGarbled, AGarbledBlockSpoils, NoHalfMessageIsHandedUp}
 use Rattle.demands.specs.Strict.{OneMeaningOneByteString, StrictBesidePlain, WhatWeWriteIsStrict}
 use Rattle.demands.specs.Useless.{UselessManagersHaveThemNot, right}
 use Rattle.demands.specs.Starred.{Starred}
@@ -12,6 +13,7 @@ use Rattle.numbers.proofs.Widths as widths
 use Rattle.reading.proofs.Placed.{placed}
 use Rattle.reading.proofs.Grammar as grammar
 use Rattle.reading.proofs.Layouts as layouts
+use Rattle.reading.proofs.Garbled as carried
 use Rattle.reading.proofs.Strict as strict
 use Rattle.laying.proofs.Encoded as encoded
 use Rattle.writing.specs.ReadBack.{ReadsBack, StrictBack}
@@ -25,11 +27,13 @@ use Rattle.steps.proofs.Leaves as leaves
 use Rattle.steps.proofs.Channels as channels
 use Rattle.steps.proofs.Touches as touches
 use Rattle.steps.proofs.Widths as values
+use Rattle.steps.proofs.Garbled as blocks
 use Rattle.demands.proofs.Orders as orders
 use Rattle.demands.proofs.Twice as twice
 use Rattle.demands.proofs.Sanity as sanity
 use Rattle.demands.proofs.Cut as cut
 use Rattle.demands.proofs.Ready as ready
+use Rattle.demands.proofs.Garbled as garbled
 use Rattle.demands.proofs.Managers as managers
 use Rattle.demands.proofs.Strict as strictness
 use Rattle.demands.proofs.Third as third
@@ -64,7 +68,8 @@ bad-input-gets-its-number =
     }
 
 -- "A refusal writes nothing to the reply or to the message store and changes no channel, except that three listed
--- refusals mark the one channel concerned as spoiled."
+-- refusals mark the one channel concerned as spoiled." With garbled blocks "Demand 1's exceptions grow by refusals 2, 3,
+-- 4 and 5 for such PDUs"
 pub a-refusal-leaves-all : ARefusalLeavesAll
 a-refusal-leaves-all =
     record {
@@ -73,6 +78,28 @@ a-refusal-leaves-all =
       start = leaves.start-left;
       writing = writing.writing-leaves;
       cutting = cutting.cutting-leaves;
+    }
+
+-- "When we are ready and a PDU of command 2, 3, 6 or 7 is refused while being read, yet its channel number stands in it
+-- whole and that channel is open, the channel is spoiled."
+pub which-are-garbled : WhichAreGarbled
+which-are-garbled =
+    record {
+      whole-numbers = carried.carries-exactly;
+      only-these = garbled.only-these;
+      all-these = garbled.all-these;
+      own-events = blocks.whole-is-own;
+      a-data-first-cut-off = garbled.first-cut-off;
+    }
+
+pub a-garbled-block-spoils : AGarbledBlockSpoils
+a-garbled-block-spoils =
+    record {
+      spoils = blocks.garbled-spoils;
+      answers = blocks.garbled-answer;
+      spoiled-already = blocks.garbled-again;
+      not-open = blocks.garbled-unopened;
+      not-ready = blocks.garbled-early;
     }
 
 -- ======== Demand 2
@@ -174,6 +201,11 @@ what-we-write-is-strict =
 
 -- ======== Behind them
 
+-- No half message: "A cut-off Data First came in, was refused with 2, and the Data behind it went up as a command." Now
+-- nothing goes up on that channel until it has been closed and opened again
+pub no-half-message : NoHalfMessageIsHandedUp
+no-half-message = garbled.no-half-message
+
 -- Nothing twice, the fault that this product exists for
 pub nothing-twice : NothingTwice
 nothing-twice =
@@ -194,6 +226,7 @@ useless-managers-have-them-not =
       replays-at-unreadable-pdus = useless.neither _ useless.replayer-not-3;
       invents-its-count-later = λ count. useless.neither _ (useless.invents-later-not-3 count);
       goes-on-over-a-new-start = useless.neither _ useless.goes-on-not-3;
+      forgets-a-garbled-block = useless.neither _ useless.forgets-not-3;
       right-until-full = (useless.until-full-not-2, unseen.until-full-3);
       never-declines-for-full = (useless.never-declines-not-2, unseen.never-declines-3);
       answers-a-wrong-level = (useless.wrong-level-not-2, unseen.wrong-level-3);

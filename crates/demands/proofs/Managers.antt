@@ -24,6 +24,7 @@ use Rattle.table.specs.Table.{emptyTable, numberPlace, recordAt, holds}
 use Rattle.connection.specs.States.{State, stateOf, viewAt, view, FineAct}
 use Rattle.client.specs.Events.{Event, Unreadable, Capabilities, Of}
 use Rattle.client.specs.Client.{Stepped, refused, readied, stepped, Whole, wholeOf}
+use Rattle.deciding.specs.Deciding.{tooSoon}
 use Rattle.client.proofs.Steps.{too-early, too-late, made-ready}
 use Rattle.connection.proofs.Views.{view-shut}
 use Rattle.steps.specs.States.{FineEvent, ruled, Sane, Calm}
@@ -178,7 +179,7 @@ module _ (st : State) (s : Sight) (g : Seen st s) where
         stands = all-stand n a z b r;
         sound = all-sound n a z b r;
       })
-  seen-of n a z b false r = rw (sight-early (eventMeetsFull st (Of n a)) s n a (sym (g .ready) ∙ r)) (stays (Of n a) WrongTime (too-early st n a r))
+  seen-of n a z b false r = rw (sight-early (eventMeetsFull st (Of n a)) s n a (sym (g .ready) ∙ r)) (stays (Of n a) (tooSoon a) (too-early st n a r))
 
   seen-step : (e : Event) → FineEvent e → FineBlock e → Seen (stepped st e .state) (sightNext (eventMeetsFull st e) s e)
   unfolding sightNext
@@ -195,12 +196,12 @@ module _ (st : State) (s : Sight) (g : Seen st s) where
 
   of-told :
       (c : Call) (n : ℕ) (a : Act) → FineAct a → FineBlock (Of n a) → eventIn (c .asked) ≡ Of n a → (t : Bool) → st .table .ready ≡ t
-      → told st c ≡ cond t (toldIf (eventMeetsFull st (Of n a)) n (s .stand n) a) (tellsNone (Refused WrongTime NoChannel))
+      → told st c ≡ cond t (toldIf (eventMeetsFull st (Of n a)) n (s .stand n) a) (tellsNone (Refused (tooSoon a) NoChannel))
   of-told c n a z b e true r =
       own-told st c (sane-steady st (g .calm .sane) r) n a z e ∙ ap toldBy (ruled-flag (st .table .level) st (running r) n a)
       ∙ act-told (eventMeetsFull st (Of n a)) (st .table .level) n (view n st) a (g .sound n) b
       ∙ ap (λ (j : Join). toldIf (eventMeetsFull st (Of n a)) n j a) (g .stands n)
-  of-told c n a z b e false r = refused-told st c (g .calm .sane) WrongTime (ap (stepped st) e ∙ too-early st n a r)
+  of-told c n a z b e false r = refused-told st c (g .calm .sane) (tooSoon a) (ap (stepped st) e ∙ too-early st n a r)
 
   call-told :
       (c : Call) (e : Event) → FineEvent e → FineBlock e → eventIn (c .asked) ≡ e → told st c ≡ sightTold (eventMeetsFull st e) s e

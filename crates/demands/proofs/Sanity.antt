@@ -13,7 +13,7 @@ use Rattle.channel.specs.declared.Decline.the-variants.{Unlisted, Full}
 use Rattle.channel.specs.declared.Answer.{Answer}
 use Rattle.channel.specs.declared.Answer.the-variants.{Ready, Opened, Declined, Held, Message, Closed, Ignored, Refused}
 use Rattle.channel.specs.Stages.{took}
-use Rattle.channel.specs.Channel.{Act, BadCreate, Create, Bring, Closing, LocalClose, View, Shut, Open, Did, opening, answerTo, landed, act}
+use Rattle.channel.specs.Channel.{Act, BadCreate, Create, Bring, Garbled, Closing, LocalClose, View, Shut, Open, Did, opening, answerTo, landed, act}
 use Rattle.connection.specs.States.{State, view}
 use Rattle.client.specs.Events.{Of}
 use Rattle.client.specs.Client.{stepped}
@@ -61,11 +61,13 @@ act-full l n true Shut (Create true pri) = refl
 act-full l n false Shut (Create true pri) = refl
 act-full l n full Shut (Create false pri) = refl
 act-full l n full Shut (Bring offer bytes) = refl
+act-full l n full Shut (Garbled why) = refl
 act-full l n full Shut Closing = refl
 act-full l n full Shut LocalClose = refl
 act-full l n full (Open r b) BadCreate = refl
 act-full l n full (Open r b) (Create listed pri) = refl
 act-full l n full (Open r b) (Bring offer bytes) = landed-full n r b bytes (took (r .stage) offer (length bytes))
+act-full l n full (Open r b) (Garbled why) = refl
 act-full l n full (Open r b) Closing = refl
 act-full l n full (Open r b) LocalClose = refl
 

@@ -25,7 +25,7 @@ use Rattle.channel.specs.declared.Concern.the-variants.{NoChannel, Channel}
 use Rattle.channel.specs.declared.Answer.{Answer}
 use Rattle.channel.specs.declared.Answer.the-variants.{Ready, Opened, Declined, Held, Message, Closed, Ignored, Refused}
 use Rattle.channel.specs.Stages.{added, tookFirst, took}
-use Rattle.channel.specs.Channel.{Act, BadCreate, Create, Bring, Closing, LocalClose, View, Shut, Open, Room, Did, did, opening, answerTo, landed, act}
+use Rattle.channel.specs.Channel.{Act, BadCreate, Create, Bring, Garbled, Closing, LocalClose, View, Shut, Open, Room, Did, did, restaged, opening, answerTo, landed, act}
 use Rattle.table.specs.Sound.{goodStage}
 use Rattle.table.proofs.Soundness.{joining-bounds}
 use Rattle.client.specs.Events.{Event, Unreadable, Capabilities, Of}
@@ -141,6 +141,14 @@ module _ (n : ℕ) (r : Record) (part : List ℕ) (whole : length part ≡ PART)
   open-again (Joining wanted held) listed pri = record { answers = refl; replies = refl; hands = refl }
   open-again Spoiled listed pri = record { answers = refl; replies = refl; hands = refl }
 
+  open-unread :
+      (s : Stage) (why : Refusal)
+      → BySteps (did (Open (restaged r Spoiled) part) (Refused why NoChannel) []) n (joinAt s part) (Garbled why)
+  unfolding joins stepSays once
+  open-unread Idle why = record { answers = refl; replies = refl; hands = refl }
+  open-unread (Joining wanted held) why = record { answers = refl; replies = refl; hands = refl }
+  open-unread Spoiled why = record { answers = refl; replies = refl; hands = refl }
+
   open-closing : (s : Stage) → BySteps (did Shut (Closed n) (closeBytes n)) n (joinAt s part) Closing
   unfolding joins stepSays once
   open-closing Idle = record { answers = refl; replies = refl; hands = refl }
@@ -160,6 +168,7 @@ module _ (n : ℕ) (r : Record) (part : List ℕ) (whole : length part ≡ PART)
   open-says l room g BadCreate = open-bad (r .stage)
   open-says l room g (Create listed pri) = open-again (r .stage) listed pri
   open-says l room g (Bring offer block) = open-bring g offer block
+  open-says l room g (Garbled why) = open-unread (r .stage) why
   open-says l room g Closing = open-closing (r .stage)
   open-says l room g LocalClose = open-local (r .stage)
 
@@ -170,6 +179,7 @@ shut-says l n BadCreate = record { answers = refl; replies = refl; hands = refl 
 shut-says l n (Create true pri) = record { answers = refl; replies = refl; hands = refl }
 shut-says l n (Create false pri) = record { answers = refl; replies = refl; hands = refl }
 shut-says l n (Bring offer block) = record { answers = refl; replies = refl; hands = refl }
+shut-says l n (Garbled why) = record { answers = refl; replies = refl; hands = refl }
 shut-says l n Closing = record { answers = refl; replies = refl; hands = refl }
 shut-says l n LocalClose = record { answers = refl; replies = refl; hands = refl }
 
@@ -211,11 +221,13 @@ act-both true l n Shut BadCreate s f = plainly true l n Shut BadCreate refl s f
 act-both true l n Shut (Create true pri) s f = declined-full l n pri
 act-both true l n Shut (Create false pri) s f = plainly true l n Shut (Create false pri) refl s f
 act-both true l n Shut (Bring offer block) s f = plainly true l n Shut (Bring offer block) refl s f
+act-both true l n Shut (Garbled why) s f = plainly true l n Shut (Garbled why) refl s f
 act-both true l n Shut Closing s f = plainly true l n Shut Closing refl s f
 act-both true l n Shut LocalClose s f = plainly true l n Shut LocalClose refl s f
 act-both true l n (Open r part) BadCreate s f = plainly true l n (Open r part) BadCreate (open-wants (r .stage) part true BadCreate) s f
 act-both true l n (Open r part) (Create listed pri) s f = plainly true l n (Open r part) (Create listed pri) (open-wants (r .stage) part true (Create listed pri)) s f
 act-both true l n (Open r part) (Bring offer block) s f = plainly true l n (Open r part) (Bring offer block) (open-wants (r .stage) part true (Bring offer block)) s f
+act-both true l n (Open r part) (Garbled why) s f = plainly true l n (Open r part) (Garbled why) (open-wants (r .stage) part true (Garbled why)) s f
 act-both true l n (Open r part) Closing s f = plainly true l n (Open r part) Closing (open-wants (r .stage) part true Closing) s f
 act-both true l n (Open r part) LocalClose s f = plainly true l n (Open r part) LocalClose (open-wants (r .stage) part true LocalClose) s f
 
@@ -288,21 +300,25 @@ act-brings n Off BadCreate = refl
 act-brings n Off (Create true pri) = refl
 act-brings n Off (Create false pri) = refl
 act-brings n Off (Bring offer block) = block-brings n (whyNot Off offer) (joins Off (Bring offer block) .brings)
+act-brings n Off (Garbled why) = refl
 act-brings n Off Closing = refl
 act-brings n Off LocalClose = refl
 act-brings n Waiting BadCreate = refl
 act-brings n Waiting (Create listed pri) = refl
 act-brings n Waiting (Bring offer block) = block-brings n (whyNot Waiting offer) (joins Waiting (Bring offer block) .brings)
+act-brings n Waiting (Garbled why) = refl
 act-brings n Waiting Closing = refl
 act-brings n Waiting LocalClose = refl
 act-brings n (Gathering wanted got) BadCreate = refl
 act-brings n (Gathering wanted got) (Create listed pri) = refl
 act-brings n (Gathering wanted got) (Bring offer block) = block-brings n (whyNot (Gathering wanted got) offer) (joins (Gathering wanted got) (Bring offer block) .brings)
+act-brings n (Gathering wanted got) (Garbled why) = refl
 act-brings n (Gathering wanted got) Closing = refl
 act-brings n (Gathering wanted got) LocalClose = refl
 act-brings n Dead BadCreate = refl
 act-brings n Dead (Create listed pri) = refl
 act-brings n Dead (Bring offer block) = block-brings n (whyNot Dead offer) (joins Dead (Bring offer block) .brings)
+act-brings n Dead (Garbled why) = refl
 act-brings n Dead Closing = refl
 act-brings n Dead LocalClose = refl
 

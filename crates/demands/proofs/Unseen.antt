@@ -7,7 +7,7 @@ use mathlib.Core.Bool.{Bool, true, false, cond}
 use mathlib.Core.List.{List, [], _∷_}
 use Rattle.paper.specs.declared.Refusal.{Refusal}
 use Rattle.lists.proofs.Cases.{choice}
-use Rattle.channel.specs.Channel.{Act, BadCreate, Create, Bring, Closing, LocalClose}
+use Rattle.channel.specs.Channel.{Act, BadCreate, Create, Bring, Garbled, Closing, LocalClose}
 use Rattle.connection.specs.States.{State}
 use Rattle.client.specs.Events.{Event, Unreadable, Capabilities, Of}
 use Rattle.client.specs.Client.{stepped}
@@ -84,21 +84,25 @@ step-full n Off BadCreate = refl
 step-full n Off (Create true pri) = refl
 step-full n Off (Create false pri) = refl
 step-full n Off (Bring offer block) = block-full n (whyNot Off offer) (joins Off (Bring offer block) .brings)
+step-full n Off (Garbled why) = refl
 step-full n Off Closing = refl
 step-full n Off LocalClose = refl
 step-full n Waiting BadCreate = refl
 step-full n Waiting (Create listed pri) = refl
 step-full n Waiting (Bring offer block) = block-full n (whyNot Waiting offer) (joins Waiting (Bring offer block) .brings)
+step-full n Waiting (Garbled why) = refl
 step-full n Waiting Closing = refl
 step-full n Waiting LocalClose = refl
 step-full n (Gathering wanted got) BadCreate = refl
 step-full n (Gathering wanted got) (Create listed pri) = refl
 step-full n (Gathering wanted got) (Bring offer block) = block-full n (whyNot (Gathering wanted got) offer) (joins (Gathering wanted got) (Bring offer block) .brings)
+step-full n (Gathering wanted got) (Garbled why) = refl
 step-full n (Gathering wanted got) Closing = refl
 step-full n (Gathering wanted got) LocalClose = refl
 step-full n Dead BadCreate = refl
 step-full n Dead (Create listed pri) = refl
 step-full n Dead (Bring offer block) = block-full n (whyNot Dead offer) (joins Dead (Bring offer block) .brings)
+step-full n Dead (Garbled why) = refl
 step-full n Dead Closing = refl
 step-full n Dead LocalClose = refl
 

@@ -1,4 +1,4 @@
--- None of the useless managers has demand 2, and of the fourteen only those that are wrong after a full table or in the level have
+-- None of the useless managers has demand 2, and of the fifteen only those that are wrong after a full table or in the level have
 -- demand 3 (proofs/Unseen). Two runs refute them all, with PUMP as the one listener; each refutation looks at one place of a run.
 -- Assumes nothing.
 use Prim.Native.Nat.{ℕ, zero, suc, _+_, _≤_}
@@ -11,33 +11,34 @@ use lib.ListN.{length}
 use Rattle.paper.specs.Sizes.{PDU-MAX, MESSAGE-MAX, LIST-MAX, PARTS, REPLY-MIN}
 use Rattle.paper.specs.Statuses.{OPENED, FULL}
 use Rattle.paper.specs.declared.Refusal.{Refusal}
-use Rattle.paper.specs.declared.Refusal.the-variants.{NoCommand}
+use Rattle.paper.specs.declared.Refusal.the-variants.{CutShort, NoCommand, IsSpoiled}
 use Rattle.lists.specs.Bytes.{zeros}
 use Rattle.lists.specs.Places.{place}
 use Rattle.lists.proofs.Cases.{true-not-false}
 use Rattle.numbers.specs.Numbers.{little, valueOf, valueAt, widthOf}
 use Rattle.reading.specs.Reading.{namedFor, createRequest, dataFirst, closing, afterNumber, badLengthWidth, numbered, capabilities, badVersion, byVersion, charged, byCommand, readPdu}
 use Rattle.reading.specs.Said.{bytesAt}
+use Rattle.reading.specs.Garbled.{bringsBlock, wholeIn, carriesBy, carries}
 use Rattle.laying.specs.Laying.{createResponseBytes, closeBytes, capsResponseBytes}
 use Rattle.listeners.specs.Listeners.{names, ended, noneEmpty, sameBytes, isOneOf, allNames, goodList, isListed}
 use Rattle.channel.specs.declared.Offer.the-variants.{First, More}
 use Rattle.channel.specs.declared.Decline.the-variants.{Full}
-use Rattle.channel.specs.declared.Concern.the-variants.{NoChannel}
+use Rattle.channel.specs.declared.Concern.the-variants.{NoChannel, Channel}
 use Rattle.channel.specs.declared.Answer.{Answer}
 use Rattle.channel.specs.declared.Answer.the-variants.{Ready, Opened, Declined, Held, Message, Closed, Ignored, Refused}
 use Rattle.channel.specs.Stages.{added, tookFirst, took}
-use Rattle.channel.specs.Channel.{Create, Bring, Closing, openedRecord, restaged, opening, stageAfter, partAfter, answerTo, landed, act}
+use Rattle.channel.specs.Channel.{Create, Bring, Garbled, Closing, openedRecord, restaged, opening, stageAfter, partAfter, answerTo, landed, act}
 use Rattle.channel.specs.Answers.{numberOf, declineNumber}
 use Rattle.table.specs.Table.{emptyTable, holds, isFree, numberPlace, freePlace, recordAt, withRecord}
 use Rattle.connection.specs.States.{State, viewAt, view, roomAt, roomIn, wrote, save}
-use Rattle.client.specs.Events.{Event, Unreadable, Capabilities, Of, createAct, eventOf, isOf}
+use Rattle.client.specs.Events.{Event, Unreadable, Capabilities, Of, createAct, unread, eventOf, isOf}
 use Rattle.client.specs.Client.{finished, acted, readied, stepped}
 use Rattle.demands.specs.Trace.{consIf, keep, final, seen}
 use Rattle.demands.specs.Runs.{Entry, receives, Call, Told, eventIn, isEventOf, eventsOf, ownEvents, fullTable, asksRoom, eventMeetsFull}
 use Rattle.demands.specs.Joining.{Off, Gathering, Brings, NoMessage, StillToCome, Complete, gathered, startsWith, goesOn, joins, joinsIf, joinWith, joinAll, broughtBy, brought, once, handed}
 use Rattle.demands.specs.Telling.{whyNot, answered, stepSays, saysIf, handsUp, toldIf, tellsNone}
 use Rattle.demands.specs.Managers.{Manager, Reached, at-first, called, JustStarted, first-start, new-start, everyTold, tellsTo, Sight, atStart, sightNext, sightTold, readyTold, paperStart, shouldTell, nobodys, isNobodys, Roomy, strayUp, AllEmpty, Orders, Demand2Of, Demand3Of}
-use Rattle.demands.specs.Useless.{isNo, isMessage, isHeld, isFull, OnlyNo, refusesAll, Always, fixed, Beside, fresh, managerBy, right, With, warpNext, warpTold, warped, forget, always, respelled, noted, from-then, spoilsAfter, blankTold, storeless, firstOnly, recountTold, invents, doubleTold, twice, keptMemory, keptStand, keptNext, keeps, lostBy, disturbNext, disturbs, lastTold, replays, replayer, untilFull, neverDeclines, inventsLater, relevelTold, wrongLevel, keptOver, goesOnOver, HasNeither}
+use Rattle.demands.specs.Useless.{isNo, isMessage, isHeld, isFull, OnlyNo, refusesAll, Always, fixed, Beside, fresh, managerBy, right, With, warpNext, warpTold, warped, forget, always, respelled, noted, from-then, spoilsAfter, blankTold, storeless, firstOnly, recountTold, invents, doubleTold, twice, keptMemory, keptStand, keptNext, keeps, lostBy, disturbNext, disturbs, lastTold, replays, replayer, untilFull, neverDeclines, inventsLater, relevelTold, wrongLevel, keptOver, goesOnOver, forgetsNext, forgetsTold, forgets, HasNeither}
 use Rattle.demands.proofs.Third.{own-map, pick, seen-pick, seen-map, marks, nobody-marks, tail, two-gives-three}
 use Rattle.demands.proofs.ByFlags.{runBy, finalBy, fullFrom, roomy-run, should-by, calls-by, told-by, comes-to, respoken, warped-by}
 
@@ -65,7 +66,7 @@ short =
     opens 5
     ∷ opens 6
     ∷ asks (0x30 ∷ 5 ∷ 7 ∷ 8 ∷ [])
-    ∷ asks (0x60 ∷ 5 ∷ [])
+    ∷ asks (0x80 ∷ 5 ∷ [])
     ∷ asks (0x20 ∷ 5 ∷ 3 ∷ 1 ∷ [])
     ∷ asks (0x30 ∷ 6 ∷ 9 ∷ [])
     ∷ asks (0x30 ∷ 5 ∷ 2 ∷ [])
@@ -74,6 +75,8 @@ short =
     ∷ asks (0x40 ∷ 5 ∷ [])
     ∷ opens 5
     ∷ asks (0x30 ∷ 5 ∷ 2 ∷ 3 ∷ 4 ∷ [])
+    ∷ asks (0x24 ∷ 5 ∷ 1 ∷ [])
+    ∷ asks (0x30 ∷ 5 ∷ 6 ∷ [])
     ∷ []
 
 short-events : List Event
@@ -90,6 +93,8 @@ short-events =
     ∷ Of 5 Closing
     ∷ Of 5 (Create true 0)
     ∷ Of 5 (Bring More (2 ∷ 3 ∷ 4 ∷ []))
+    ∷ Of 5 (Garbled CutShort)
+    ∷ Of 5 (Bring More (6 ∷ []))
     ∷ []
 
 -- seventeen channels, and a message
@@ -118,11 +123,11 @@ unfolding hello asks PUMP call eventIn eventOf readPdu byCommand capabilities ba
 hello-read = refl
 
 short-read : eventsOf short ≡ short-events
-unfolding short short-events opens asks PUMP call eventIn eventOf createAct readPdu byCommand numbered badLengthWidth afterNumber closing dataFirst createRequest namedFor bytesAt little valueOf valueAt widthOf place names ended noneEmpty sameBytes isOneOf allNames goodList isListed PDU-MAX LIST-MAX
+unfolding short short-events opens asks PUMP call eventIn eventOf unread carries carriesBy bringsBlock wholeIn createAct readPdu byCommand numbered badLengthWidth afterNumber closing dataFirst createRequest namedFor bytesAt little valueOf valueAt widthOf place names ended noneEmpty sameBytes isOneOf allNames goodList isListed PDU-MAX LIST-MAX
 short-read = refl
 
 many-read : eventsOf many ≡ many-events
-unfolding many many-events opened-event opens asks PUMP call eventIn eventOf createAct readPdu byCommand numbered badLengthWidth afterNumber closing dataFirst createRequest namedFor bytesAt little valueOf valueAt widthOf place names ended noneEmpty sameBytes isOneOf allNames goodList isListed PDU-MAX LIST-MAX
+unfolding many many-events opened-event opens asks PUMP call eventIn eventOf unread carries carriesBy bringsBlock wholeIn createAct readPdu byCommand numbered badLengthWidth afterNumber closing dataFirst createRequest namedFor bytesAt little valueOf valueAt widthOf place names ended noneEmpty sameBytes isOneOf allNames goodList isListed PDU-MAX LIST-MAX
 many-read = refl
 
 with-hello : (xs : List Call) (es : List Event) → eventsOf xs ≡ es → eventsOf (hello ∷ xs) ≡ Capabilities 3 ∷ es
@@ -131,7 +136,7 @@ with-hello xs es e = ap (λ (x : Event). x ∷ eventsOf xs) hello-read ∙ ap (�
 -- the paper's flags in them
 short-roomy : Roomy paperStart (Capabilities 3 ∷ short-events)
 unfolding short-events paperStart readied stepped acted finished save wrote view viewAt roomIn roomAt numberPlace freePlace recordAt withRecord emptyTable holds isFree place act landed stageAfter partAfter answerTo restaged took tookFirst added opening openedRecord eventMeetsFull asksRoom fullTable PARTS MESSAGE-MAX
-short-roomy = (refl, (refl, (refl, (refl, (refl, (refl, (refl, (refl, (refl, (refl, (refl, (refl, (refl, tt)))))))))))))
+short-roomy = (refl, (refl, (refl, (refl, (refl, (refl, (refl, (refl, (refl, (refl, (refl, (refl, (refl, (refl, (refl, tt)))))))))))))))
 
 many-flags :
     fullFrom paperStart (Capabilities 3 ∷ many-events)
@@ -166,6 +171,8 @@ short-told =
     ∷ replies (Closed 5) (closeBytes 5)
     ∷ opened-told 5
     ∷ hands 5 (2 ∷ 3 ∷ 4 ∷ [])
+    ∷ tellsNone (Refused CutShort NoChannel)
+    ∷ tellsNone (Refused IsSpoiled (Channel 5))
     ∷ []
 
 many-told : List Told
@@ -189,7 +196,7 @@ many-run = ap (runBy sightNext sightTold atStart (Capabilities 3 ∷ many-events
 short-brings : List Brings
 short-brings =
     NoMessage ∷ Complete (7 ∷ 8 ∷ []) ∷ StillToCome 2 ∷ StillToCome 1 ∷ Complete (1 ∷ 2 ∷ 3 ∷ []) ∷ StillToCome 3
-    ∷ NoMessage ∷ NoMessage ∷ Complete (2 ∷ 3 ∷ 4 ∷ []) ∷ []
+    ∷ NoMessage ∷ NoMessage ∷ Complete (2 ∷ 3 ∷ 4 ∷ []) ∷ NoMessage ∷ NoMessage ∷ []
 
 own-brings : joinAll Off (ownEvents 5 short) ≡ short-brings
 unfolding short-events short-brings joinWith joinsIf joins startsWith goesOn gathered MESSAGE-MAX
@@ -362,7 +369,7 @@ pub fixed-not-3 : (t : Told) → Demand3Of (fixed t) → ⊥
 unfolding fixed
 fixed-not-3 t = always-not-3 (fixed t) (t .answer) (λ s c. refl)
 
--- ---- 3 to 14: the right manager with one thing made wrong, in the short run
+-- ---- 3 to 15: the right manager with one thing made wrong, in the short run
 
 flags-of :
     (xs : List Call) (es : List Event) → eventsOf xs ≡ es
@@ -464,6 +471,13 @@ keeps-not-3 d =
     let z : _≡_ {A = ℕ} 10 9 = ap (weight-at 8) (three-brings _ keptNext (λ full w e. sightTold full (w .sight) e) d) in
     omega arith
 
+-- 15: the Data behind a Data First that is cut off goes up
+pub forgets-not-3 : Demand3Of forgets → ⊥
+unfolding forgets forgetsNext forgetsTold short-events short-brings broughtBy sightNext sightTold toldIf saysIf joinsIf handsUp stepSays answered whyNot joins startsWith goesOn gathered MESSAGE-MAX
+forgets-not-3 d =
+    let z : _≡_ {A = ℕ} 6 0 = ap (weight-at 10) (three-brings atStart forgetsNext forgetsTold d) in
+    omega arith
+
 -- 8: what 5 had gathered is lost
 pub disturbs-not-3 : Demand3Of disturbs → ⊥
 unfolding disturbs disturbNext lostBy short-events short-brings broughtBy sightNext sightTold toldIf saysIf joinsIf handsUp stepSays answered whyNot joins startsWith goesOn gathered MESSAGE-MAX
@@ -520,7 +534,7 @@ before-events : List Event
 before-events = Capabilities 3 ∷ Of 5 (Create true 0) ∷ Of 5 (Bring (First 4) (1 ∷ [])) ∷ []
 
 before-read : eventsOf before ≡ before-events
-unfolding before before-events hello opens asks PUMP call eventIn eventOf createAct readPdu byCommand capabilities badVersion byVersion charged numbered badLengthWidth afterNumber dataFirst createRequest namedFor bytesAt little valueOf valueAt widthOf place names ended noneEmpty sameBytes isOneOf allNames goodList isListed PDU-MAX LIST-MAX
+unfolding before before-events hello opens asks PUMP call eventIn eventOf unread carries carriesBy bringsBlock wholeIn createAct readPdu byCommand capabilities badVersion byVersion charged numbered badLengthWidth afterNumber dataFirst createRequest namedFor bytesAt little valueOf valueAt widthOf place names ended noneEmpty sameBytes isOneOf allNames goodList isListed PDU-MAX LIST-MAX
 before-read = refl
 
 -- it stands in the middle of a message

@@ -78,7 +78,8 @@ pub record BadInputGetsItsNumber : Type 0 where
       ≡ comesTo (cutting.lengthsAt number message offset) (firstHeld (cutting.cuttingRows number message offset out))
 
 -- "A refusal writes nothing to the reply or to the message store and changes no channel, except that three listed
--- refusals mark the one channel concerned as spoiled."
+-- refusals mark the one channel concerned as spoiled." With garbled blocks "Demand 1's exceptions grow by refusals 2, 3,
+-- 4 and 5 for such PDUs": `spoils` says which, `leftBy` what they leave; Garbled says which PDUs those are
 pub record ARefusalLeavesAll : Type 0 where
   -- but for the one channel, which is the one with the number that the PDU carries
   pub receive :

@@ -10,7 +10,7 @@ use Rattle.channel.specs.declared.Offer.{Offer}
 use Rattle.channel.specs.declared.Offer.the-variants.{First, More}
 use Rattle.channel.specs.declared.Answer.{Answer}
 use Rattle.channel.specs.declared.Answer.the-variants.{Ready, Opened, Declined, Held, Message, Closed, Ignored, Refused}
-use Rattle.channel.specs.Channel.{Act, BadCreate, Create, Bring, Closing, LocalClose}
+use Rattle.channel.specs.Channel.{Act, BadCreate, Create, Bring, Garbled, Closing, LocalClose}
 use Rattle.client.specs.Events.{Event, Unreadable, Capabilities, Of}
 use Rattle.demands.specs.Runs.{Told}
 
@@ -66,6 +66,10 @@ joins Off (Bring offer block) = still Off
 joins Waiting (Bring offer block) = startsWith offer block
 joins (Gathering wanted got) (Bring offer block) = goesOn wanted got offer block
 joins Dead (Bring offer block) = still Dead
+joins Off (Garbled why) = still Off
+joins Waiting (Garbled why) = still Dead
+joins (Gathering wanted got) (Garbled why) = still Dead
+joins Dead (Garbled why) = still Dead
 joins j Closing = still Off
 joins j LocalClose = still Off
 
@@ -76,6 +80,7 @@ abbrev pub wantsRoom : Join → Act → Bool
 wantsRoom Off BadCreate = false
 wantsRoom Off (Create listed pri) = listed
 wantsRoom Off (Bring offer block) = false
+wantsRoom Off (Garbled why) = false
 wantsRoom Off Closing = false
 wantsRoom Off LocalClose = false
 wantsRoom Waiting a = false

@@ -11,4 +11,5 @@ pub mod Starred
 pub mod Demand1
 pub mod Demand2
 pub mod Demand3
+pub mod Garbled
 pub mod Strict

@@ -3,7 +3,7 @@
 -- events alone: whether a Capabilities request came, where each number's joining stands, and whether the paper's
 -- own steps on the events before it met a full table. No table, no record and no store of the manager's is looked
 -- at.
-use Prim.Native.Nat.{ℕ, min}
+use Prim.Native.Nat.{ℕ}
 use mathlib.Core.Path.{_≡_}
 use mathlib.Core.Bool.{Bool, true, false, cond}
 use mathlib.Core.List.{List, [], _∷_, map}
@@ -14,6 +14,7 @@ use Rattle.lists.specs.Bytes.{zeros}
 use Rattle.laying.specs.Laying.{capsResponseBytes}
 use Rattle.channel.specs.declared.Concern.the-variants.{NoChannel}
 use Rattle.channel.specs.declared.Answer.the-variants.{Ready, Refused}
+use Rattle.deciding.specs.Deciding.{tooSoon, levelFor}
 use Rattle.table.specs.Table.{emptyTable}
 use Rattle.connection.specs.States.{State, stateOf}
 use Rattle.client.specs.Events.{Event, Unreadable, Capabilities, Of}
@@ -88,12 +89,12 @@ sightNext full s (Of n a) =
 -- "Capabilities request: ready. The level in use is the smaller of the server's version and 2."
 abbrev pub readyTold : ℕ → Told
 readyTold version =
-    record { answer = Ready (min version OUR-VERSION); reply = capsResponseBytes OUR-VERSION; message = [] }
+    record { answer = Ready (levelFor version); reply = capsResponseBytes OUR-VERSION; message = [] }
 
 unfoldable pub sightTold : Bool → Sight → Event → Told
 sightTold full s (Unreadable why) = tellsNone (Refused why NoChannel)
 sightTold full s (Capabilities version) = cond (s .ready) (tellsNone (Refused WrongTime NoChannel)) (readyTold version)
-sightTold full s (Of n a) = cond (s .ready) (toldIf full n (s .stand n) a) (tellsNone (Refused WrongTime NoChannel))
+sightTold full s (Of n a) = cond (s .ready) (toldIf full n (s .stand n) a) (tellsNone (Refused (tooSoon a) NoChannel))
 
 -- the paper's steps on the events, for the full table alone
 unfoldable pub paperStart : State

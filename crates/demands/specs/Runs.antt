@@ -12,7 +12,7 @@ use Rattle.reading.specs.declared.Charges.{Charges}
 use Rattle.reading.specs.declared.Pdu.the-variants.{CapsRequest}
 use Rattle.channel.specs.declared.Answer.{Answer}
 use Rattle.channel.specs.declared.Answer.the-variants.{Ready, Opened, Declined, Held, Message, Closed, Ignored, Refused}
-use Rattle.channel.specs.Channel.{Act, BadCreate, Create, Bring, Closing, LocalClose, View, Shut, Open}
+use Rattle.channel.specs.Channel.{Act, BadCreate, Create, Bring, Garbled, Closing, LocalClose, View, Shut, Open}
 use Rattle.table.specs.Table.{freePlace}
 use Rattle.connection.specs.States.{State, stateOf, view}
 use Rattle.client.specs.Events.{Event, Unreadable, Capabilities, Of, eventOf, isOf}
@@ -76,7 +76,8 @@ unfoldable pub eventIn : Entry → Event
 eventIn (receives list pdu) = eventOf list pdu (readPdu true pdu)
 eventIn (closes n) = Of n LocalClose
 
--- "A channel's events are the readable PDUs that carry its number (accepted or not) and its local closes."
+-- "A channel's events are the readable PDUs that carry its number (accepted or not) and its local closes", and the garbled
+-- blocks that carry it
 unfoldable pub isEventOf : ℕ → Call → Bool
 isEventOf n c = isOf n (eventIn (c .asked))
 
@@ -104,6 +105,7 @@ unfoldable pub asksRoom : View → Act → Bool
 asksRoom Shut BadCreate = false
 asksRoom Shut (Create listed pri) = listed
 asksRoom Shut (Bring offer bytes) = false
+asksRoom Shut (Garbled why) = false
 asksRoom Shut Closing = false
 asksRoom Shut LocalClose = false
 asksRoom (Open r part) a = false

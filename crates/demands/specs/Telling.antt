@@ -17,7 +17,7 @@ use Rattle.channel.specs.declared.Decline.the-variants.{Unlisted, Full}
 use Rattle.channel.specs.declared.Concern.the-variants.{NoChannel, Channel}
 use Rattle.channel.specs.declared.Answer.{Answer}
 use Rattle.channel.specs.declared.Answer.the-variants.{Opened, Declined, Held, Message, Closed, Ignored, Refused}
-use Rattle.channel.specs.Channel.{Act, BadCreate, Create, Bring, Closing, LocalClose}
+use Rattle.channel.specs.Channel.{Act, BadCreate, Create, Bring, Garbled, Closing, LocalClose}
 use Rattle.client.specs.Events.{Event, Unreadable, Capabilities, Of}
 use Rattle.demands.specs.Runs.{Told}
 use Rattle.demands.specs.Joining.{Join, Off, Waiting, Gathering, Dead, Brings, NoMessage, StillToCome, Complete}
@@ -56,6 +56,7 @@ stepSays n Waiting (Create listed pri) = says (Refused AlreadyOpen (Channel n)) 
 stepSays n (Gathering wanted got) (Create listed pri) = says (Refused AlreadyOpen (Channel n)) []
 stepSays n Dead (Create listed pri) = says (Refused AlreadyOpen (Channel n)) []
 stepSays n j (Bring offer block) = says (answered n (whyNot j offer) (joins j (Bring offer block) .brings)) []
+stepSays n j (Garbled why) = says (Refused why NoChannel) []
 stepSays n Off Closing = says (Ignored n) []
 stepSays n Waiting Closing = says (Closed n) (closeBytes n)
 stepSays n (Gathering wanted got) Closing = says (Closed n) (closeBytes n)

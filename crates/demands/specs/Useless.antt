@@ -1,5 +1,5 @@
--- Managers that nobody would want, as values of the record: the paper's five, three more (6 to 8), and six that are
--- wrong only at times (9 to 14). All but the first two are a manager that has both demands, `right`, with one thing
+-- Managers that nobody would want, as values of the record: the paper's five, three more (6 to 8), and seven that are
+-- wrong only at times (9 to 15). All but the first two are a manager that has both demands, `right`, with one thing
 -- made wrong.
 use Prim.Native.Nat.{ℕ}
 use mathlib.Core.Path.{_≡_}
@@ -13,7 +13,7 @@ use Rattle.channel.specs.declared.Decline.the-variants.{Unlisted, Full}
 use Rattle.channel.specs.declared.Concern.the-variants.{NoChannel}
 use Rattle.channel.specs.declared.Answer.{Answer}
 use Rattle.channel.specs.declared.Answer.the-variants.{Ready, Opened, Declined, Held, Message, Closed, Ignored, Refused}
-use Rattle.channel.specs.Channel.{BadCreate, Create, Bring, Closing, LocalClose}
+use Rattle.channel.specs.Channel.{Act, BadCreate, Create, Bring, Garbled, Closing, LocalClose}
 use Rattle.connection.specs.States.{State}
 use Rattle.client.specs.Events.{Event, Unreadable, Capabilities, Of}
 use Rattle.client.specs.Client.{stepped}
@@ -222,6 +222,7 @@ keptMemory had left (Capabilities version) = left
 keptMemory had left (Of n BadCreate) = left
 keptMemory had left (Of n (Create listed pri)) = put n Off left
 keptMemory had left (Of n (Bring offer block)) = left
+keptMemory had left (Of n (Garbled why)) = left
 keptMemory had left (Of n Closing) = put n (had .stand n) left
 keptMemory had left (Of n LocalClose) = put n (had .stand n) left
 
@@ -231,6 +232,7 @@ keptStand left now (Capabilities version) = now
 keptStand left now (Of n BadCreate) = now
 keptStand left now (Of n (Create listed pri)) = put n (reopened (left n) (now n)) now
 keptStand left now (Of n (Bring offer block)) = now
+keptStand left now (Of n (Garbled why)) = now
 keptStand left now (Of n Closing) = now
 keptStand left now (Of n LocalClose) = now
 
@@ -326,6 +328,30 @@ keptOver b = fresh (record { ready = false; stand = b .kept .stand })
 unfoldable pub goesOnOver : Manager (Beside Sight)
 goesOnOver = record { begin = right .begin; again = keptOver; next = right .next; tells = right .tells }
 
+-- ---- 15: it forgets a garbled block, as the base did: for it that is a PDU of no channel
+
+abbrev pub forgotten : ℕ → Act → Event
+forgotten n BadCreate = Of n BadCreate
+forgotten n (Create listed pri) = Of n (Create listed pri)
+forgotten n (Bring offer block) = Of n (Bring offer block)
+forgotten n (Garbled why) = Unreadable why
+forgotten n Closing = Of n Closing
+forgotten n LocalClose = Of n LocalClose
+
+abbrev pub asTheBaseDid : Event → Event
+asTheBaseDid (Unreadable why) = Unreadable why
+asTheBaseDid (Capabilities version) = Capabilities version
+asTheBaseDid (Of n a) = forgotten n a
+
+unfoldable pub forgetsNext : Bool → Sight → Event → Sight
+forgetsNext full s e = sightNext full s (asTheBaseDid e)
+
+unfoldable pub forgetsTold : Bool → Sight → Event → Told
+forgetsTold full s e = sightTold full s (asTheBaseDid e)
+
+unfoldable pub forgets : Manager (Beside Sight)
+forgets = managerBy atStart forgetsNext forgetsTold
+
 -- ---- none has demand 2, and none demand 3 but for those that are wrong only after a full table or in the level,
 -- which demand 3 doesn't see: it supposes no full table, and begins behind the Capabilities request
 
@@ -350,8 +376,9 @@ pub record UselessManagersHaveThemNot : Type 1 where
   pub replays-at-unreadable-pdus : HasNeither replayer
   pub invents-its-count-later : (count : ℕ) → HasNeither (inventsLater count)
   pub goes-on-over-a-new-start : HasNeither goesOnOver
+  pub forgets-a-garbled-block : HasNeither forgets
   pub right-until-full : Only3 untilFull
   pub never-declines-for-full : Only3 neverDeclines
   pub answers-a-wrong-level : Only3 wrongLevel
-  -- and the manager that 3 to 14 are made from has both
+  -- and the manager that 3 to 15 are made from has both
   pub without-the-fault : Demand2Of right × Demand3Of right

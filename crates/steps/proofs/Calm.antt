@@ -9,12 +9,16 @@ use Prim.Native.Nat.{ℕ, _≤_, _<_, min}
 use native.Mathlib.Omega.{arith}
 use lib.ListN.{length}
 use Rattle.paper.specs.Sizes.{PARTS, STORE}
+use Rattle.paper.specs.declared.Refusal.{Refusal}
 use Rattle.lists.specs.Bytes.{zeros}
 use Rattle.lists.proofs.Cases.{choice, lt-or-le}
 use Rattle.lists.proofs.Laid.{length-zeros}
 use Rattle.store.proofs.Parts.{zeros-part}
 use Rattle.reading.specs.Reading.{readPdu}
 use Rattle.reading.specs.Said.{bytesAt}
+use Rattle.reading.specs.Garbled.{carries}
+use Rattle.reading.specs.declared.Carried.{Carried}
+use Rattle.reading.specs.declared.Carried.the-variants.{NoNumber, Number}
 use Rattle.reading.specs.declared.Pdu.{Pdu}
 use Rattle.reading.specs.declared.Pdu.the-variants.{CreateRequest, CreateResponse, DataFirst, Data, Close, CapsRequest, CapsResponse, Refused}
 use Rattle.reading.proofs.Placed.{Placed, placed}
@@ -25,7 +29,7 @@ use Rattle.table.specs.Table.{emptyTable, recordAt}
 use Rattle.table.specs.Sound.{soundTable}
 use Rattle.table.proofs.Soundness.{sound-empty, sound-ready}
 use Rattle.connection.specs.States.{State, stateOf, Steady, FreePartsAreZero, FineAct}
-use Rattle.client.specs.Events.{Event, Unreadable, Capabilities, Of, createAct, eventOf}
+use Rattle.client.specs.Events.{Event, Unreadable, Capabilities, Of, createAct, unread, eventOf}
 use Rattle.client.specs.Client.{readied, stepped, badCall, wholeOf, guarded, received, locallyClosed}
 use Rattle.client.proofs.Steps.{too-early, made-ready}
 use Rattle.client.proofs.Calls.{proper, refuses, passes}
@@ -94,6 +98,11 @@ pub fine-create : (list name : List ℕ) (pri : ℕ) → pri ≤ 3 → FineAct (
 unfolding createAct
 fine-create list name pri h = choice FineAct (goodList list) (λ e. h) (λ e. tt)
 
+fine-unread : (why : Refusal) (carried : Carried) → FineEvent (unread why carried)
+unfolding unread
+fine-unread why NoNumber = tt
+fine-unread why (Number n) = tt
+
 fine-read : (list pdu : List ℕ) (p : Pdu) → Placed pdu p → FineEvent (eventOf list pdu p)
 unfolding eventOf
 fine-read list pdu (CreateRequest n class name) h = fine-create list (bytesAt pdu name) class (h .1)
@@ -103,7 +112,7 @@ fine-read list pdu (Data n block) h = tt
 fine-read list pdu (Close n) h = tt
 fine-read list pdu (CapsRequest version charges) h = h .0
 fine-read list pdu (CapsResponse version) h = tt
-fine-read list pdu (Refused why) h = tt
+fine-read list pdu (Refused why) h = fine-unread why (carries pdu)
 
 pub fine-pdu : (list pdu : List ℕ) → FineEvent (eventOf list pdu (readPdu true pdu))
 fine-pdu list pdu = fine-read list pdu (readPdu true pdu) (placed pdu true)

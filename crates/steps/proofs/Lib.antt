@@ -5,3 +5,4 @@ pub mod Refusals
 pub mod Leaves
 pub mod Touches
 pub mod Widths
+pub mod Garbled

@@ -13,6 +13,9 @@ use Rattle.paper.specs.Sizes.{PARTS, STORE, MESSAGE-MAX}
 use Rattle.paper.specs.declared.Refusal.{Refusal}
 use Rattle.paper.specs.declared.Refusal.the-variants.{BadCall, BadList, WrongTime, NotOpen, AlreadyOpen, StillJoining, OverLimit, PastLength, IsSpoiled}
 use Rattle.lists.proofs.Cases.{choice, each}
+use Rattle.reading.specs.Garbled.{carries}
+use Rattle.reading.specs.declared.Carried.{Carried}
+use Rattle.reading.specs.declared.Carried.the-variants.{NoNumber, Number}
 use Rattle.reading.specs.Reading.{readPdu}
 use Rattle.reading.specs.Said.{bytesAt}
 use Rattle.reading.specs.declared.Extent.{Extent}
@@ -36,14 +39,15 @@ use Rattle.paper.proofs.Rows.{held-before, held-behind}
 use Rattle.channel.specs.declared.Took.{Took}
 use Rattle.channel.specs.declared.Took.the-variants.{Bars, Spoils, Holds, Finishes}
 use Rattle.channel.specs.Stages.{added, tookFirst, took}
-use Rattle.channel.specs.Channel.{Act, BadCreate, Create, Bring, Closing, LocalClose, View, Shut, Open, Room, NoRoom, Spare, opening, answerTo, landed, act}
+use Rattle.channel.specs.Channel.{Act, BadCreate, Create, Bring, Garbled, Closing, LocalClose, View, Shut, Open, Room, NoRoom, Spare, opening, answerTo, landed, act}
+use Rattle.deciding.specs.Deciding.{tooSoon}
 use Rattle.table.specs.declared.Table.{Table}
 use Rattle.table.specs.Table.{numberPlace, recordAt}
 use Rattle.table.specs.Sound.{goodStage, soundTable}
 use Rattle.table.proofs.Soundness.{sound-says, joining-bounds}
 use Rattle.connection.specs.States.{State, stateOf, viewAt, view, roomIn}
 use Rattle.store.specs.Parts.{part}
-use Rattle.client.specs.Events.{Unreadable, Capabilities, Of, createAct, eventOf}
+use Rattle.client.specs.Events.{Unreadable, Capabilities, Of, createAct, unread, eventOf}
 use Rattle.client.specs.Client.{Stepped, refused, finished, acted, readied, stepped, badCall, Whole, wholeOf, guarded, received, locallyClosed, started}
 use Rattle.client.specs.declared.Begun.the-variants.{Done, Refused as NotBegun}
 use Rattle.client.proofs.Steps.{too-late, made-ready}
@@ -142,6 +146,11 @@ module _ (level n : ℕ) (room : Room) (r : Record) (part : List ℕ) where
   says-data true bytes g = landed-verdict n r part bytes (took (r .stage) More (length bytes)) ∙ data-verdict (r .stage) (length bytes) g
   says-data false bytes g = refuses-so NotOpen (Channel n)
 
+  says-garbled : (t : Bool) (why : Refusal) → says t (Garbled why) ≡ refusedWith why
+  unfolding act verdictOf
+  says-garbled true why = refl
+  says-garbled false why = refl
+
   says-close : (t : Bool) → says t Closing ≡ firstHeld []
   unfolding act verdictOf firstHeld
   says-close true = refl
@@ -154,18 +163,26 @@ module _ (level n : ℕ) (room : Room) (r : Record) (part : List ℕ) where
 
 -- ---- a step
 
--- refusal 7 stands in front of an event of a channel
-of-verdict :
+-- what comes when not ready stands in front of an event of a channel
+soon-verdict :
     (st : State) (n : ℕ) (a : Act)
-    → verdict (stepped st (Of n a)) ≡ cond (not (st .table .ready)) (refusedWith WrongTime) (verdictOf (act (st .table .level) n (roomIn st) (view n st) a .answer))
+    → verdict (stepped st (Of n a)) ≡ cond (not (st .table .ready)) (refusedWith (tooSoon a)) (verdictOf (act (st .table .level) n (roomIn st) (view n st) a .answer))
 unfolding stepped acted finished
-of-verdict st n a = go (st .table .ready)
+soon-verdict st n a = go (st .table .ready)
   where
     go :
         (t : Bool)
-        → verdict (cond t (finished n st (view n st) (act (st .table .level) n (roomIn st) (view n st) a)) (refused st WrongTime)) ≡ cond (not t) (refusedWith WrongTime) (verdictOf (act (st .table .level) n (roomIn st) (view n st) a .answer))
+        → verdict (cond t (finished n st (view n st) (act (st .table .level) n (roomIn st) (view n st) a)) (refused st (tooSoon a))) ≡ cond (not t) (refusedWith (tooSoon a)) (verdictOf (act (st .table .level) n (roomIn st) (view n st) a .answer))
     go true = refl
-    go false = refuses-so WrongTime NoChannel
+    go false = refuses-so (tooSoon a) NoChannel
+
+-- it is refusal 7, but for a garbled block
+of-verdict :
+    (st : State) (n : ℕ) (a : Act) → tooSoon a ≡ WrongTime
+    → verdict (stepped st (Of n a)) ≡ cond (not (st .table .ready)) (refusedWith WrongTime) (verdictOf (act (st .table .level) n (roomIn st) (view n st) a .answer))
+of-verdict st n a e =
+    soon-verdict st n a
+    ∙ ap (λ (why : Refusal). cond (not (st .table .ready)) (refusedWith why) (verdictOf (act (st .table .level) n (roomIn st) (view n st) a .answer))) e
 
 -- a place within the PDU is as long as it says
 place-long : (pdu : List ℕ) (p : Extent) → p .at + p .len ≡ length pdu → length (bytesAt pdu p) ≡ p .len
@@ -203,9 +220,25 @@ module _ (t : Table) (store list pdu : List ℕ) (sound : soundTable t ≡ true)
   unfolding view viewAt isOpen
   local-says n = says-local (t .level) n (roomIn (stateOf t store)) (recordAt t (numberPlace n t)) (part store (numberPlace n t)) (ltb (numberPlace n t) PARTS)
 
-  unread : (why : Refusal) → verdict (stepped (stateOf t store) (Unreadable why)) ≡ refusedWith why
+  unreadable : (why : Refusal) → verdict (stepped (stateOf t store) (Unreadable why)) ≡ refusedWith why
   unfolding stepped
-  unread why = refuses-so why NoChannel
+  unreadable why = refuses-so why NoChannel
+
+  -- a garbled block gets its refusal, ready or not, open or not
+  garbled-says : (n : ℕ) (why : Refusal) → found n (Garbled why) ≡ refusedWith why
+  unfolding view viewAt
+  garbled-says n why = says-garbled (t .level) n (roomIn (stateOf t store)) (recordAt t (numberPlace n t)) (part store (numberPlace n t)) (ltb (numberPlace n t) PARTS) why
+
+  garbled-verdict : (n : ℕ) (why : Refusal) → verdict (stepped (stateOf t store) (Of n (Garbled why))) ≡ refusedWith why
+  unfolding tooSoon
+  garbled-verdict n why =
+      soon-verdict (stateOf t store) n (Garbled why)
+      ∙ choice (λ (v : Verdict). v ≡ refusedWith why) (not (t .ready)) (λ e. refl) (λ e. garbled-says n why)
+
+  unread-says : (why : Refusal) (carried : Carried) → verdict (stepped (stateOf t store) (unread why carried)) ≡ refusedWith why
+  unfolding unread
+  unread-says why NoNumber = unreadable why
+  unread-says why (Number n) = garbled-verdict n why
 
   caps-says :
       (version : ℕ) (b : Bool) → t .ready ≡ b
@@ -214,26 +247,30 @@ module _ (t : Table) (store list pdu : List ℕ) (sound : soundTable t ≡ true)
   caps-says version true e = ap verdict (too-late (stateOf t store) version e)
   caps-says version false e = ap verdict (made-ready (stateOf t store) version e)
 
+  create-soon : (name : List ℕ) (pri : ℕ) → tooSoon (createAct list name pri) ≡ WrongTime
+  unfolding createAct tooSoon
+  create-soon name pri = choice (λ (a : Act). tooSoon a ≡ WrongTime) (goodList list) (λ e. refl) (λ e. refl)
+
   -- what reading accepts gets the rows of its kind
   step-verdict :
       (p : Pdu) → Placed pdu p → verdictOn p ≡ fine
       → verdict (stepped (stateOf t store) (eventOf list pdu p)) ≡ firstHeld (rowsOf t list p)
-  unfolding eventOf rowsOf firstHeld
+  unfolding eventOf rowsOf firstHeld tooSoon
   step-verdict (CapsRequest version charges) h f = caps-says version (t .ready) refl
   step-verdict (CreateRequest n class name) h f =
-      of-verdict (stateOf t store) n (createAct list (bytesAt pdu name) class)
+      of-verdict (stateOf t store) n (createAct list (bytesAt pdu name) class) (create-soon (bytesAt pdu name) class)
       ∙ ap (cond (not (t .ready)) (refusedWith WrongTime)) (create-says n class (bytesAt pdu name))
   step-verdict (DataFirst n len block) h f =
-      of-verdict (stateOf t store) n (Bring (First len) (bytesAt pdu block))
+      of-verdict (stateOf t store) n (Bring (First len) (bytesAt pdu block)) refl
       ∙ ap (cond (not (t .ready)) (refusedWith WrongTime)) (first-says n len (bytesAt pdu block))
       ∙ ap (λ (m : ℕ). firstHeld (firstRows t n len m)) (place-long pdu block h)
   step-verdict (Data n block) h f =
-      of-verdict (stateOf t store) n (Bring More (bytesAt pdu block))
+      of-verdict (stateOf t store) n (Bring More (bytesAt pdu block)) refl
       ∙ ap (cond (not (t .ready)) (refusedWith WrongTime)) (data-says n (bytesAt pdu block))
       ∙ ap (λ (m : ℕ). firstHeld (dataRows t n m)) (place-long pdu block h)
-  step-verdict (Close n) h f = of-verdict (stateOf t store) n Closing ∙ ap (cond (not (t .ready)) (refusedWith WrongTime)) (close-says n)
-  step-verdict (CreateResponse n status) h f = unread WrongTime
-  step-verdict (CapsResponse version) h f = unread WrongTime
+  step-verdict (Close n) h f = of-verdict (stateOf t store) n Closing refl ∙ ap (cond (not (t .ready)) (refusedWith WrongTime)) (close-says n)
+  step-verdict (CreateResponse n status) h f = unreadable WrongTime
+  step-verdict (CapsResponse version) h f = unreadable WrongTime
   step-verdict (Refused why) h f = let z : _≡_ {A = ℕ} 0 1 = cc in absurd (omega arith)
 
   -- what reading refuses gets that refusal
@@ -248,7 +285,7 @@ module _ (t : Table) (store list pdu : List ℕ) (sound : soundTable t ≡ true)
   unread-verdict (Close n) why f = let z : _≡_ {A = ℕ} 0 1 = cc in absurd (omega arith)
   unread-verdict (CreateResponse n status) why f = let z : _≡_ {A = ℕ} 0 1 = cc in absurd (omega arith)
   unread-verdict (CapsResponse version) why f = let z : _≡_ {A = ℕ} 0 1 = cc in absurd (omega arith)
-  unread-verdict (Refused x) why f = unread x ∙ f
+  unread-verdict (Refused x) why f = unread-says x (carries pdu) ∙ f
 
   -- reading's rows first
   read-verdict :
@@ -264,8 +301,8 @@ module _ (t : Table) (store list pdu : List ℕ) (sound : soundTable t ≡ true)
   pub local-verdict :
       (n : ℕ)
       → verdict (stepped (stateOf t store) (Of n LocalClose)) ≡ firstHeld (row WrongTime (not (t .ready)) ∷ row NotOpen (not (isOpen t n)) ∷ [])
-  unfolding firstHeld
-  local-verdict n = of-verdict (stateOf t store) n LocalClose ∙ ap (cond (not (t .ready)) (refusedWith WrongTime)) (local-says n)
+  unfolding firstHeld tooSoon
+  local-verdict n = of-verdict (stateOf t store) n LocalClose refl ∙ ap (cond (not (t .ready)) (refusedWith WrongTime)) (local-says n)
 
 -- ---- the calls
 

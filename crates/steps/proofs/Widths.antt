@@ -9,6 +9,8 @@ use lib.ListN.{length}
 use Rattle.paper.specs.Sizes.{PDU-MAX}
 use Rattle.paper.specs.declared.Refusal.the-variants.{WrongTime}
 use Rattle.reading.specs.Reading.{readPdu}
+use Rattle.reading.specs.Garbled.{carries}
+use Rattle.reading.specs.declared.Carried.{Carried}
 use Rattle.reading.specs.Grammar.{Value, create-request, create-response, data-first, data-block, close, capabilities-request, capabilities-response, Read, values, refusal, meant, readAs, Encodes}
 use Rattle.reading.specs.declared.Pdu.{Pdu}
 use Rattle.reading.specs.declared.Pdu.the-variants.{CreateRequest, CreateResponse, DataFirst, Data, Close, CapsRequest, CapsResponse, Refused}
@@ -17,22 +19,26 @@ use Rattle.channel.specs.declared.Offer.the-variants.{First, More}
 use Rattle.channel.specs.Channel.{Bring, Closing}
 use Rattle.table.specs.declared.Table.{Table}
 use Rattle.connection.specs.States.{stateOf}
-use Rattle.client.specs.Events.{Event, Unreadable, Capabilities, Of, createAct, eventOf}
+use Rattle.client.specs.Events.{Event, Unreadable, Capabilities, Of, createAct, unread, eventOf}
 use Rattle.client.specs.Client.{stepped, guarded, received}
 
 -- the event is a function of the values alone
-unfoldable pub eventOfRead : List ℕ → Read → Event
-eventOfRead list (values (create-request n pri name)) = Of n (createAct list name pri)
-eventOfRead list (values (create-response n status)) = Unreadable WrongTime
-eventOfRead list (values (data-first n len block)) = Of n (Bring (First len) block)
-eventOfRead list (values (data-block n block)) = Of n (Bring More block)
-eventOfRead list (values (close n)) = Of n Closing
-eventOfRead list (values (capabilities-request version charges)) = Capabilities version
-eventOfRead list (values (capabilities-response version)) = Unreadable WrongTime
-eventOfRead list (refusal why) = Unreadable why
+unfoldable pub eventOfValue : List ℕ → Value → Event
+eventOfValue list (create-request n pri name) = Of n (createAct list name pri)
+eventOfValue list (create-response n status) = Unreadable WrongTime
+eventOfValue list (data-first n len block) = Of n (Bring (First len) block)
+eventOfValue list (data-block n block) = Of n (Bring More block)
+eventOfValue list (close n) = Of n Closing
+eventOfValue list (capabilities-request version charges) = Capabilities version
+eventOfValue list (capabilities-response version) = Unreadable WrongTime
 
-event-is : (list pdu : List ℕ) (p : Pdu) → eventOf list pdu p ≡ eventOfRead list (meant pdu p)
-unfolding eventOf eventOfRead
+-- or of the refusal, and of the number that the PDU carries
+unfoldable pub eventOfRead : List ℕ → Carried → Read → Event
+eventOfRead list carried (values v) = eventOfValue list v
+eventOfRead list carried (refusal why) = unread why carried
+
+event-is : (list pdu : List ℕ) (p : Pdu) → eventOf list pdu p ≡ eventOfRead list (carries pdu) (meant pdu p)
+unfolding eventOf eventOfRead eventOfValue
 event-is list pdu (CreateRequest n class name) = refl
 event-is list pdu (CreateResponse n status) = refl
 event-is list pdu (DataFirst n len block) = refl
@@ -45,9 +51,10 @@ event-is list pdu (Refused why) = refl
 -- the event of an encoding
 pub encoded-event :
     (v : Value) (bytes : List ℕ) → Encodes true v bytes → length bytes ≤ PDU-MAX → (list : List ℕ)
-    → eventOf list bytes (readPdu true bytes) ≡ eventOfRead list (values v)
-unfolding readAs
-encoded-event v bytes e l list = event-is list bytes (readPdu true bytes) ∙ ap (eventOfRead list) (every-encoding true v bytes e l)
+    → eventOf list bytes (readPdu true bytes) ≡ eventOfValue list v
+unfolding readAs eventOfRead
+encoded-event v bytes e l list =
+    event-is list bytes (readPdu true bytes) ∙ ap (eventOfRead list (carries bytes)) (every-encoding true v bytes e l)
 
 -- two PDUs of the same values, whatever the widths and whatever Sp, are the same event
 pub same-event :

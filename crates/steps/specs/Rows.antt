@@ -76,7 +76,7 @@ passes Idle n = false
 passes (Joining wanted held) n = ltb (wanted - held) n
 passes Spoiled n = false
 
--- ---- the rows of a received PDU from 7 on, by its kind
+-- ---- the rows of a received PDU from 7 on, by its kind. What reading refuses has none, a garbled block neither
 
 -- a Data First of a Length, with a block of m bytes
 abbrev pub firstRows : Table → ℕ → ℕ → ℕ → List Row

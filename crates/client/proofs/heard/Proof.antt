@@ -25,14 +25,14 @@ read-requires c κs = search needs
 enum-known-why : tie.Need-enum-known-why
 enum-known-why c = search needs
 
-bare-requires : tie.Need-bare-requires
-bare-requires c κs = search needs
+unread-requires : tie.Need-unread-requires
+unread-requires c κs = search needs
 
 enum-known-version : tie.Need-enum-known-version
 enum-known-version c = search needs
 
-bare-requires-2 : tie.Need-bare-requires-2
-bare-requires-2 c κs = search needs
+bare-requires : tie.Need-bare-requires
+bare-requires c κs = search needs
 
 enum-known-number : tie.Need-enum-known-number
 enum-known-number c = search needs
@@ -52,8 +52,8 @@ part-create-ask-end c = omega (arith, rw (c .before .before .number .given .1) a
 create-ask-requires : tie.Need-create-ask-requires
 create-ask-requires c κs = search needs
 
-bare-requires-3 : tie.Need-bare-requires-3
-bare-requires-3 c κs = search needs
+bare-requires-2 : tie.Need-bare-requires-2
+bare-requires-2 c κs = search needs
 
 enum-known-number-2 : tie.Need-enum-known-number-2
 enum-known-number-2 c = search needs
@@ -64,28 +64,28 @@ enum-known-number-3 c = search needs
 enum-known-number-4 : tie.Need-enum-known-number-4
 enum-known-number-4 c = search needs
 
-bare-requires-4 : tie.Need-bare-requires-4
-bare-requires-4 c κs = search needs
+bare-requires-3 : tie.Need-bare-requires-3
+bare-requires-3 c κs = search needs
 
 enum-told : tie.Need-enum-told
 enum-told c = search needs
 
-bare-requires-5 : tie.Need-bare-requires-5
-bare-requires-5 c κs = search needs
+bare-requires-4 : tie.Need-bare-requires-4
+bare-requires-4 c κs = search needs
 
 enum-told-2 : tie.Need-enum-told-2
 enum-told-2 c = search needs
 
-bare-requires-6 : tie.Need-bare-requires-6
-bare-requires-6 c κs = search needs
+bare-requires-5 : tie.Need-bare-requires-5
+bare-requires-5 c κs = search needs
 
 returns : tie.Need-returns
 unfolding heardIn
-returns c = rw (sym (c .before .before .before .before .read .ensures) ∙ c .before .before .why .given .1) (c .bare .ensures)
+returns c = rw (sym (c .before .before .before .before .read .ensures) ∙ c .before .before .why .given .1) (c .unread .ensures)
 
 returns-2 : tie.Need-returns-2
 unfolding heardIn
-returns-2 c = rw (sym (c .before .before .before .before .read .ensures) ∙ c .before .before .version .given .1) (c .bare2 .ensures)
+returns-2 c = rw (sym (c .before .before .before .before .read .ensures) ∙ c .before .before .version .given .1) (c .bare .ensures)
 
 returns-3 : tie.Need-returns-3
 unfolding heardIn bytesAt
@@ -98,7 +98,7 @@ returns-3 c =
     let bytes = from-to (now (a .pdu)) (name .at) (name .len) in
     let asks = c .before .create-ask .ensures ∙ ap (λ (b : List ℕ). createAsk (now (a .list)) b (values .1 .0)) bytes in
     rw (sym (at-read .read .ensures) ∙ at-name .number .given .1)
-    (c .bare3 .ensures ∙ ap (λ (ask : Ask). asking (values .0) (Asks ask) nowhere) asks)
+    (c .bare2 .ensures ∙ ap (λ (ask : Ask). asking (values .0) (Asks ask) nowhere) asks)
 
 returns-4 : tie.Need-returns-4
 unfolding heardIn
@@ -110,15 +110,15 @@ returns-5 c = rw (sym (c .before .before .before .read .ensures) ∙ c .before .
 
 returns-6 : tie.Need-returns-6
 unfolding heardIn
-returns-6 c = rw (sym (c .before .before .before .before .read .ensures) ∙ c .before .before .number4 .given .1) (c .bare4 .ensures)
+returns-6 c = rw (sym (c .before .before .before .before .read .ensures) ∙ c .before .before .number4 .given .1) (c .bare3 .ensures)
 
 returns-7 : tie.Need-returns-7
 unfolding heardIn
-returns-7 c = rw (sym (c .before .before .before .read .ensures) ∙ c .before .enum-told .given .1) (c .bare5 .ensures)
+returns-7 c = rw (sym (c .before .before .before .read .ensures) ∙ c .before .enum-told .given .1) (c .bare4 .ensures)
 
 returns-8 : tie.Need-returns-8
 unfolding heardIn
-returns-8 c = rw (sym (c .before .before .before .read .ensures) ∙ c .before .enum-told2 .given .1) (c .bare6 .ensures)
+returns-8 c = rw (sym (c .before .before .before .read .ensures) ∙ c .before .enum-told2 .given .1) (c .bare5 .ensures)
 
 pub heard-spec : {M : Type 1} → statement M
 heard-spec =
@@ -126,24 +126,24 @@ heard-spec =
     (tie.spec
     read-requires
     enum-known-why
-    bare-requires
+    unread-requires
     enum-known-version
-    bare-requires-2
+    bare-requires
     enum-known-number
     add-end
     sub-create-ask
     part-create-ask-start
     part-create-ask-end
     create-ask-requires
-    bare-requires-3
+    bare-requires-2
     enum-known-number-2
     enum-known-number-3
     enum-known-number-4
-    bare-requires-4
+    bare-requires-3
     enum-told
-    bare-requires-5
+    bare-requires-4
     enum-told-2
-    bare-requires-6
+    bare-requires-5
     returns
     returns-2
     returns-3
