@@ -7,7 +7,8 @@
  *   plain messages < PDUS     the bytes of each message handed up
  *   plain bench ROUNDS FILE   all PDUs of FILE, ROUNDS times, each round from
  *                             Start and ended by closing what is open; how
- *                             many calls got each answer
+ *                             many calls got each answer, and the messages
+ *                             counted on what was open at the end
  *
  * The input is PDUs, each after its length in two bytes, little-endian.
  *
@@ -259,6 +260,7 @@ struct channel {
     uint8_t priority_class;
     uint8_t stage;
     uint16_t wanted, held; /* while joining */
+    uint32_t count;        /* messages handed up since the opening; it stays at its maximum */
 };
 
 struct manager {
@@ -347,6 +349,7 @@ static struct answer on_create(struct manager *m, const struct pdu *pdu, const u
     ch->open = true;
     ch->priority_class = m->level == 2 ? pdu->priority : 0;
     ch->stage = IDLE;
+    ch->count = 0;
     return answered(OPENED, number, 0, put_create_response(reply, number, 0));
 }
 
@@ -403,6 +406,8 @@ static struct answer on_data(struct manager *m, const struct pdu *pdu)
     if (held == wanted) {
         ch->stage = IDLE;
         ch->wanted = ch->held = 0;
+        if (ch->count < UINT32_MAX)
+            ch->count++;
         return answered(MESSAGE, pdu->number, wanted, 0);
     }
     ch->stage = JOINING;
@@ -602,7 +607,7 @@ static bool read_file(const char *name, uint8_t *into, size_t *length)
 }
 
 /* One round from Start, ended by closing what is open; a last record cut short is left out. */
-static void one_round(const uint8_t *file, size_t length, uint64_t counts[WORDS])
+static void one_round(const uint8_t *file, size_t length, uint64_t counts[WORDS], uint64_t *counted)
 {
     size_t at = 0;
 
@@ -619,14 +624,16 @@ static void one_round(const uint8_t *file, size_t length, uint64_t counts[WORDS]
         at += n;
     }
     for (int i = 0; i < CHANNELS; i++)
-        if (the_manager.channels[i].open)
+        if (the_manager.channels[i].open) {
+            *counted += the_manager.channels[i].count;
             counts[local_close(&the_manager, the_manager.channels[i].number, the_reply).word]++;
+        }
 }
 
 static int bench(uint32_t rounds, const char *name)
 {
     static uint8_t file[FILE_MAX];
-    uint64_t counts[WORDS] = {0}, calls = 0;
+    uint64_t counts[WORDS] = {0}, calls = 0, counted = 0;
     size_t length;
 
     if (!read_file(name, file, &length)) {
@@ -634,12 +641,13 @@ static int bench(uint32_t rounds, const char *name)
         return 1;
     }
     for (uint32_t i = 0; i < rounds; i++)
-        one_round(file, length, counts);
+        one_round(file, length, counts, &counted);
     for (int w = 0; w < WORDS; w++)
         calls += counts[w];
     printf("calls %llu\n", (unsigned long long)calls);
     for (int w = 0; w < WORDS; w++)
         printf("%s %llu\n", word_names[w], (unsigned long long)counts[w]);
+    printf("counted %llu\n", (unsigned long long)counted);
     return 0;
 }
 

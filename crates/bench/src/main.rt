@@ -2,8 +2,8 @@
 //
 // Called as `bench bench ROUNDS FILE`. FILE has PDUs, each after its length in two bytes, little-endian, and at most
 // 2 MiB. Each round is a host's: it begins with Start, hands over every PDU, with the one listener PUMP, and then closes what
-// is open. Then it prints `calls N` and, for each answer word, how many calls got it. bench/plain.c prints the same from
-// plain C.
+// is open, noting each channel's count of messages. Then it prints `calls N`, for each answer word how many calls got it,
+// and `counted N`, the sum of the counts. bench/plain.c prints the same from plain C.
 use channel::Answer;
 use client::Asked;
 use files::Filled;
@@ -14,7 +14,7 @@ ghost use mathlib.Core.Path.{_≡_};
 ghost use Prim.Native.Nat.{_<_, _≤_};
 ghost use lib.ListN.{length};
 ghost use Rattle.bench.specs.Hosts.{askedNext};
-ghost use Rattle.bench.specs.Tallies.{plus, tallied, noCalls, sumOf};
+ghost use Rattle.bench.specs.Tallies.{plus, tallied, noted, noCalls, sumOf};
 
 // The most bytes that a file has.
 const FILE_MAX: usize = 2097152;
@@ -22,7 +22,7 @@ const FILE_MAX: usize = 2097152;
 // Every count of rounds is below this.
 const ROUNDS_END: u64 = 1000000000;
 
-// How many calls got each answer word.
+// How many calls got each answer word, and the messages that channels counted which were open at the end of a round.
 struct Tally {
     ready: u64,
     opened: u64,
@@ -32,6 +32,7 @@ struct Tally {
     closed: u64,
     ignored: u64,
     refused: u64,
+    counted: u64,
 }
 
 // The sum of two counts. It goes on from 0 where 64 bits end.
@@ -56,6 +57,15 @@ fn tallied(tally: Tally, answer: Answer) -> Tally
         Answer::Ignored { number: _ } => now.ignored = plus(now.ignored, 1),
         Answer::Refused { why: _, concern: _ } => now.refused = plus(now.refused, 1),
     }
+    now
+}
+
+// The tally with a channel's count of messages.
+fn noted(tally: Tally, count: u32) -> Tally
+    ensures { λ r. ⌜ r ≡ noted tally count ⌝ }
+{
+    let mut now = tally;
+    now.counted = plus(now.counted, count as u64);
     now
 }
 
@@ -103,6 +113,7 @@ fn one_round(file: &[u8], store: &mut [u8], reply: &mut [u8], before: Tally) -> 
                 return tally;
             }
             number = row.number;
+            tally = noted(tally, row.count);
             closes += 1;
         }
         let asked = next_asked(at < end, &file[start..end], number);
@@ -133,6 +144,7 @@ fn run(rounds: u64, file: &[u8]) -> Tally
         closed: 0,
         ignored: 0,
         refused: 0,
+        counted: 0,
     };
     let mut left = rounds;
     while 0 < left {
@@ -166,7 +178,7 @@ fn print_line(word: &[u8], number: u64) -> usize
 
 // Writes the tally. Answers how many lines were written.
 fn print_tally(t: Tally) -> usize
-    ensures { λ r. ⌜ r ≤ 9 ⌝ }
+    ensures { λ r. ⌜ r ≤ 10 ⌝ }
 {
     print_line(b"calls", sum(t))
         + print_line(b"ready", t.ready)
@@ -177,6 +189,7 @@ fn print_tally(t: Tally) -> usize
         + print_line(b"closed", t.closed)
         + print_line(b"ignored", t.ignored)
         + print_line(b"refused", t.refused)
+        + print_line(b"counted", t.counted)
 }
 
 // The value of a decimal digit, or ten for any other byte.
@@ -218,7 +231,7 @@ fn count_of(text: &[u8]) -> u64
 // Reads the file into the room lent, and runs it. Answers how many lines were written. A file that can't be opened or
 // read, or is too long, is said on standard error.
 fn run_file(rounds: u64, path: &[u8], room: &mut [u8]) -> usize
-    ensures { λ r. ⌜ r ≤ 9 ⌝ }
+    ensures { λ r. ⌜ r ≤ 10 ⌝ }
 {
     let fd = os::open_read(path);
     if fd < 0 {
@@ -246,7 +259,7 @@ fn room() -> [u8; FILE_MAX + 1]
 
 // Lends room for the file.
 fn bench(rounds: u64, path: &[u8]) -> usize
-    ensures { λ r. ⌜ r ≤ 9 ⌝ }
+    ensures { λ r. ⌜ r ≤ 10 ⌝ }
 {
     let mut room = room();
     run_file(rounds, path, &mut room)

@@ -33,7 +33,7 @@ use Rattle.channel.specs.declared.Reply.the-variants.{NoReply, Version, 
 use Rattle.channel.specs.declared.Turn.{Turn}
 use Rattle.channel.specs.Stages.{took}
 use Rattle.channel.specs.Channel.{Act, BadCreate, Create, Bring, Closing, LocalClose, View, Shut, Open, Room}
-use Rattle.channel.specs.Channel.{NoRoom, Spare, openedRecord, restaged, stageAfter, answerTo}
+use Rattle.channel.specs.Channel.{NoRoom, Spare, openedRecord, restaged, recordAfter, answerTo}
 
 -- ---- the turns
 
@@ -59,9 +59,9 @@ creating level n room row listed pri =
 -- what data does to an open channel's record, and to its part
 unfoldable pub changeBy : Record → Took → Change
 changeBy r (Bars why) = Stays
-changeBy r (Spoils why) = Becomes (restaged r (stageAfter (r .stage) (Spoils why)))
-changeBy r (Holds wanted at held) = Becomes (restaged r (stageAfter (r .stage) (Holds wanted at held)))
-changeBy r (Finishes at len) = Becomes (restaged r (stageAfter (r .stage) (Finishes at len)))
+changeBy r (Spoils why) = Becomes (recordAfter r (Spoils why))
+changeBy r (Holds wanted at held) = Becomes (recordAfter r (Holds wanted at held))
+changeBy r (Finishes at len) = Becomes (recordAfter r (Finishes at len))
 
 unfoldable pub partBy : Took → Part
 partBy (Bars why) = Keeps

@@ -4,13 +4,14 @@
 // their code, with no table, no store and no bytes in hand: it takes the channel's record and what is asked of it, and says
 // what becomes of the record and of the part, what is answered and what is sent. `take` is the part that joins messages.
 // `garbles` stands beside `act`: a block that reading refuses, on an open channel.
+use paper::COUNT_MAX;
 use paper::MESSAGE_MAX;
 use paper::Refusal;
 ghost use mathlib.Core.Path.{_≡_};
 ghost use Prim.Native.Nat.{_-_};
 ghost use Rattle.channel.specs.Answers.{concernOf, numberOf};
 ghost use Rattle.channel.specs.Stages.{added, tookFirst, took};
-ghost use Rattle.channel.specs.Channel.{classAt, openedRecord, restaged};
+ghost use Rattle.channel.specs.Channel.{classAt, counted, openedRecord, rebuilt};
 ghost use Rattle.channel.specs.Turns.{answering, declining, creating, landing, bringing, garbling, closing, turnOf};
 
 // How far a channel's message is.
@@ -23,12 +24,14 @@ pub enum Stage {
     Spoiled,
 }
 
-// A channel's record. A free one is not taken, and is as Start made it: number 0, class 0, idle.
+// A channel's record. A free one is not taken, and is as Start made it: number 0, class 0, idle, count 0.
 pub struct Record {
     pub number: u32,
+    pub stage: Stage,
     pub class: u8,
     pub taken: bool,
-    pub stage: Stage,
+    // The messages handed up since the opening, or COUNT_MAX once there.
+    pub count: u32,
 }
 
 // Why a Create request is declined.
@@ -229,9 +232,10 @@ fn opened(level: u8, number: u32, pri: u8) -> Record
 {
     Record {
         number,
+        stage: Stage::Idle,
         class: class_at(level, pri),
         taken: true,
-        stage: Stage::Idle,
+        count: 0,
     }
 }
 
@@ -266,15 +270,30 @@ fn left(wanted: u16, held: u16) -> usize
     0
 }
 
-// The record in another stage.
-fn restaged(row: Record, stage: Stage) -> Record
-    ensures { λ r. ⌜ r ≡ restaged row stage ⌝ }
+// A channel's count, with one message more if one is handed up. It stays at the ceiling once there.
+fn counted(count: u32, handed: bool) -> u32
+    ensures { λ r. ⌜ r ≡ counted count handed ⌝ }
+{
+    if !handed {
+        return count;
+    }
+    if count == COUNT_MAX {
+        return COUNT_MAX;
+    }
+    count + 1
+}
+
+// The record in another stage, with a message counted if one is handed up. Every other change of a record is an opening
+// or a closing.
+fn rebuilt(row: Record, stage: Stage, handed: bool) -> Record
+    ensures { λ r. ⌜ r ≡ rebuilt row stage handed ⌝ }
 {
     Record {
         number: row.number,
+        stage,
         class: row.class,
         taken: row.taken,
-        stage,
+        count: counted(row.count, handed),
     }
 }
 
@@ -285,7 +304,7 @@ fn lands(number: u32, row: Record, took: Took) -> Turn
     match took {
         Took::Bars(why) => refuses(number, why),
         Took::Spoils(why) => Turn {
-            change: Change::Becomes(restaged(row, Stage::Spoiled)),
+            change: Change::Becomes(rebuilt(row, Stage::Spoiled, false)),
             part: Part::Keeps,
             answer: Answer::Refused {
                 why,
@@ -294,7 +313,7 @@ fn lands(number: u32, row: Record, took: Took) -> Turn
             reply: Reply::NoReply,
         },
         Took::Holds { wanted, at, held } => Turn {
-            change: Change::Becomes(restaged(row, Stage::Joining { wanted, held })),
+            change: Change::Becomes(rebuilt(row, Stage::Joining { wanted, held }, false)),
             part: Part::Takes { at: at as usize },
             answer: Answer::Held {
                 number,
@@ -303,7 +322,7 @@ fn lands(number: u32, row: Record, took: Took) -> Turn
             reply: Reply::NoReply,
         },
         Took::Finishes { at, len } => Turn {
-            change: Change::Becomes(restaged(row, Stage::Idle)),
+            change: Change::Becomes(rebuilt(row, Stage::Idle, true)),
             part: Part::Takes { at: at as usize },
             answer: Answer::Message { number, len },
             reply: Reply::NoReply,
@@ -327,7 +346,7 @@ pub fn garbles(row: Record, why: Refusal) -> Turn
     ensures { λ r. ⌜ r ≡ garbling row why ⌝ }
 {
     Turn {
-        change: Change::Becomes(restaged(row, Stage::Spoiled)),
+        change: Change::Becomes(rebuilt(row, Stage::Spoiled, false)),
         part: Part::Keeps,
         answer: Answer::Refused {
             why,

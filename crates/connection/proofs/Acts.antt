@@ -1,7 +1,7 @@
 -- What the rules of one channel make of a view fits where the channel stands.
 -- Assumes nothing.
 use mathlib.Core.Path.{_≡_, refl, sym, _∙_}
-use mathlib.Core.Bool.{true, false}
+use mathlib.Core.Bool.{Bool, true, false}
 use mathlib.Core.List.{List}
 use Prim.Native.Nat.{ℕ, _+_, _≤_, _<_}
 use native.Mathlib.Omega.{arith}
@@ -20,7 +20,7 @@ use Rattle.channel.specs.declared.Took.{Took}
 use Rattle.channel.specs.declared.Took.the-variants.{Bars, Spoils, Holds, Finishes}
 use Rattle.channel.specs.Stages.{added, tookFirst, took}
 use Rattle.channel.specs.Channel.{Act, BadCreate, Create, Bring, Garbled, Closing, LocalClose, View, Shut, Open, Room, NoRoom}
-use Rattle.channel.specs.Channel.{Spare, classAt, openedRecord, restaged, opening, stageAfter, partAfter, landed, act}
+use Rattle.channel.specs.Channel.{Spare, classAt, openedRecord, rebuilt, restaged, opening, stageAfter, partAfter, landed, act}
 use Rattle.table.specs.Table.{holds, recordAt, numberPlace}
 use Rattle.table.specs.Sound.{goodStage}
 use Rattle.table.proofs.Twice.{holds-own}
@@ -60,14 +60,13 @@ abbrev pub Known : ℕ → View → Type 0
 Known n Shut = Unit {0}
 Known n (Open r b) = (holds n r ≡ true) × Fine r
 
--- the same record in another stage
-other-stage : (n : ℕ) (r : Record) (s : Stage) → holds n r ≡ holds n (restaged r s)
-unfolding holds restaged
-other-stage n r s = refl
+-- the record in another stage, with a message counted or not
+other-stage : (n : ℕ) (r : Record) (s : Stage) (handed : Bool) → holds n r ≡ holds n (rebuilt r s handed)
+unfolding holds
+other-stage n r s handed = refl
 
-restaged-fine : (r : Record) (s : Stage) → Fine r → goodStage s ≡ true → Fine (restaged r s)
-unfolding restaged
-restaged-fine r s f g = record { class = f .class; stage = g }
+rebuilt-fine : (r : Record) (s : Stage) (handed : Bool) → Fine r → goodStage s ≡ true → Fine (rebuilt r s handed)
+rebuilt-fine r s handed f g = record { class = f .class; stage = g }
 
 class-fine : (level pri : ℕ) → pri ≤ 3 → classAt level pri ≤ 3
 unfolding classAt
@@ -81,8 +80,8 @@ opening-fits level n pri (Spare p) h =
 
 -- spoiled, with its part as it was
 spoiled-fits : (n : ℕ) (room : Room) (r : Record) (b : List ℕ) → Known n (Open r b) → Fits n room (Open r b) (Open (restaged r Spoiled) b)
-unfolding goodStage
-spoiled-fits n room r b k = (sym (other-stage n r Spoiled) ∙ k .0, (refl, restaged-fine r Spoiled (k .1) refl))
+unfolding restaged goodStage
+spoiled-fits n room r b k = (sym (other-stage n r Spoiled false) ∙ k .0, (refl, rebuilt-fine r Spoiled false (k .1) refl))
 
 landed-fits :
     (n : ℕ) (room : Room) (r : Record) (b bytes : List ℕ) → holds n r ≡ true → Fine r → (t : Took) → GoodTook t
@@ -91,12 +90,12 @@ unfolding landed stageAfter partAfter restaged goodStage
 landed-fits n room r b bytes h f (Bars why) g = (h, (refl, f))
 landed-fits n room r b bytes h f (Spoils why) g = spoiled-fits n room r b (h, f)
 landed-fits n room r b bytes h f (Holds wanted at held) g = (
-  sym (other-stage n r (Joining wanted held))
+  sym (other-stage n r (Joining wanted held) false)
       ∙ h,
-  (length-laid b at bytes, restaged-fine r (Joining wanted held) f (joining-good wanted held (g .0) (g .1))),
+  (length-laid b at bytes, rebuilt-fine r (Joining wanted held) false f (joining-good wanted held (g .0) (g .1))),
 )
 landed-fits n room r b bytes h f (Finishes at len) g =
-    (sym (other-stage n r Idle) ∙ h, (length-laid b at bytes, restaged-fine r Idle f refl))
+    (sym (other-stage n r Idle true) ∙ h, (length-laid b at bytes, rebuilt-fine r Idle true f refl))
 
 -- a view that stays fits
 stays-fits : (n : ℕ) (room : Room) (v : View) → Known n v → Fits n room v v

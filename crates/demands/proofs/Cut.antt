@@ -4,7 +4,7 @@
 -- Assumes nothing.
 use mathlib.Core.Path.{_≡_, refl, sym, ap, _∙_, subst}
 use mathlib.Core.Logic.{⊎-elim}
-use mathlib.Core.Bool.{Bool, true, false, cond}
+use mathlib.Core.Bool.{Bool, true, false, not, cond}
 use mathlib.Core.List.{List, [], _∷_, _++_, map, append-assoc}
 use Prim.Native.Nat.{ℕ, zero, suc, _+_, _-_, _≤_, _<_}
 use native.Mathlib.Omega.{arith}
@@ -29,7 +29,7 @@ use Rattle.channel.specs.declared.Answer.the-variants.{Held, Message, Refused}
 use Rattle.channel.specs.declared.Took.{Took}
 use Rattle.channel.specs.declared.Took.the-variants.{Holds, Finishes}
 use Rattle.channel.specs.Stages.{added, tookFirst, took}
-use Rattle.channel.specs.Channel.{Bring, View, Open, Room, restaged, stageAfter, partAfter, answerTo, landed, act}
+use Rattle.channel.specs.Channel.{Bring, View, Open, Room, rebuilt, stageAfter, partAfter, answerTo, landed, act}
 use Rattle.connection.specs.States.{State, view, roomIn, Steady}
 use Rattle.client.specs.Events.{Event, Unreadable, Capabilities, Of, isOf}
 use Rattle.client.specs.Client.{stepped}
@@ -199,8 +199,8 @@ module _ (n : ℕ) (m : List ℕ) (small-number : n < NUMBERS) (short-enough : l
   landed-at :
       (at : ℕ) (r : Record) (part : List ℕ) → length part ≡ PART → at ≤ length m → take at part ≡ take at m → (t : Bool)
       → ltb (blockEnd n (length m) at) (length m) ≡ t
-      → (toldBy (landed n r part (block n m at) (cond t (Holds (length m) at (blockEnd n (length m) at)) (Finishes at (length m)))) ≡ toldOnce (blockEnd n (length m) at) t) × (landed n r part (block n m at) (cond t (Holds (length m) at (blockEnd n (length m) at)) (Finishes at (length m))) .view ≡ Open (restaged r (stageThen (blockEnd n (length m) at) t)) (laid part at (block n m at)))
-  unfolding landed stageAfter partAfter answerTo restaged firstOf
+      → (toldBy (landed n r part (block n m at) (cond t (Holds (length m) at (blockEnd n (length m) at)) (Finishes at (length m)))) ≡ toldOnce (blockEnd n (length m) at) t) × (landed n r part (block n m at) (cond t (Holds (length m) at (blockEnd n (length m) at)) (Finishes at (length m))) .view ≡ Open (rebuilt r (stageThen (blockEnd n (length m) at) t) (not t)) (laid part at (block n m at)))
+  unfolding landed stageAfter partAfter answerTo firstOf
   landed-at at r part long h same true e = (refl, refl)
   landed-at at r part long h same false e =
       let w = end-within n (length m) at h in
@@ -214,7 +214,7 @@ module _ (n : ℕ) (m : List ℕ) (small-number : n < NUMBERS) (short-enough : l
   one-step :
       (at : ℕ) (r : Record) (part : List ℕ) → length part ≡ PART → at ≤ length m → take at part ≡ take at m → StageAt at (r .stage)
       → (f : Around) (e : Event) → e ≡ eventOfPdu (cutPdu n m at) → (t : Bool) → ltb (blockEnd n (length m) at) (length m) ≡ t
-      → (toldIn f (Open r part) e ≡ toldOnce (blockEnd n (length m) at) t) × (nextIn f (Open r part) e ≡ Open (restaged r (stageThen (blockEnd n (length m) at) t)) (laid part at (block n m at)))
+      → (toldIn f (Open r part) e ≡ toldOnce (blockEnd n (length m) at) t) × (nextIn f (Open r part) e ≡ Open (rebuilt r (stageThen (blockEnd n (length m) at) t) (not t)) (laid part at (block n m at)))
   unfolding act
   one-step at r part long h same stands f e q t d =
       let event = q ∙ block-event at (isFirst (length m) at) refl in
@@ -222,19 +222,11 @@ module _ (n : ℕ) (m : List ℕ) (small-number : n < NUMBERS) (short-enough : l
       let l = landed-at at r part long h same t d in
       rw event (ap (λ (k : Took). toldBy (landed n r part (block n m at) k)) lands ∙ l .0, ap (λ (k : Took). landed n r part (block n m at) k .view) lands ∙ l .1)
 
-  restaged-twice : (r : Record) (s : Stage) → restaged (restaged r s) Idle ≡ restaged r Idle
-  unfolding restaged
-  restaged-twice r s = refl
-
-  restaged-stage : (r : Record) (s : Stage) → restaged r s .stage ≡ s
-  unfolding restaged
-  restaged-stage r s = refl
-
   -- what is shown of the calls from an offset on
   record Followed (cs : List Cut) (r : Record) (outs : List Told) (w : View) : Type 0 where
     pub is-told : outs ≡ map (toldFor n m) cs
     pub part : List ℕ
-    pub idle : w ≡ Open (restaged r Idle) part
+    pub idle : w ≡ Open (rebuilt r Idle true) part
 
   abbrev Rest : ℕ → List Cut → List (Input Event Around) → Type 0
   Rest at cs is =
@@ -263,13 +255,13 @@ module _ (n : ℕ) (m : List ℕ) (small-number : n < NUMBERS) (short-enough : l
       let joining = Joining (length m) (blockEnd n (length m) at) in
       let onward = end-from n (length m) at in
       let beyond : 0 < c .next = omega (arith, end-after n (length m) at (omega arith)) in
-      let then-stands : StageAt (c .next) (restaged r joining .stage) = rw (restaged-stage r joining) (beyond, (refl, sym next)) in
+      let then-stands : StageAt (c .next) joining = (beyond, (refl, sym next)) in
       let same-front : take (c .next) (laid part at (block n m at)) ≡ take (c .next) m = rw next (front-at at part long h same) in
-      let f = later (restaged r joining) (laid part at (block n m at)) (length-laid part at (block n m at) ∙ long) same-front then-stands in
+      let f = later (rebuilt r joining false) (laid part at (block n m at)) (length-laid part at (block n m at) ∙ long) same-front then-stands in
       record {
         is-told = rw (s .0, s .1, told-so c true e, next) (ap (λ (l : List Told). toldOnce (blockEnd n (length m) at) true ∷ l) (f .is-told));
         part = f .part;
-        idle = rw (s .1) (f .idle ∙ ap (λ (x : Record). Open x (f .part)) (restaged-twice r joining));
+        idle = rw (s .1) (f .idle);
       }
 
   module _ (lent : ℕ → List ℕ) where

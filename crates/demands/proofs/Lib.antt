@@ -16,4 +16,5 @@ pub mod Useless
 pub mod Unseen
 pub mod Starred
 pub mod Ready
+pub mod Counts
 pub mod OneOutcome

@@ -109,7 +109,7 @@ room-flag l st g = ⊎-elim some none (lt-or-le (freePlace (st .table)) PARTS)
     none h = rw (le-ltb (freePlace (st .table)) PARTS h) (room-none st (freePlace (st .table)) refl h)
 
 -- only a listed Create of a number that is not open asks for room
-flag-same : (l n : ℕ) (full : Bool) (v : View) (a : Act) → act l n (roomFlag full) v a ≡ act l n (roomFlag (asksRoom v a && full)) v a
+pub flag-same : (l n : ℕ) (full : Bool) (v : View) (a : Act) → act l n (roomFlag full) v a ≡ act l n (roomFlag (asksRoom v a && full)) v a
 unfolding act asksRoom
 flag-same l n full Shut BadCreate = refl
 flag-same l n full Shut (Create true pri) = refl

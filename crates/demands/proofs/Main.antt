@@ -6,6 +6,7 @@ use Rattle.demands.specs.Demand2.{PdusAreReadSo, PdusAreWrittenSo, Steps
 use Rattle.demands.specs.Demand3.{AConnectionJustMadeReady, TwoOrdersMeanThis, EitherOrderIsTheSame, NothingTwice}
 use Rattle.demands.specs.Garbled.{WhichAreGarbled, AGarbledBlockSpoils, NoHalfMessageIsHandedUp}
 use Rattle.demands.specs.Strict.{OneMeaningOneByteString, StrictBesidePlain, WhatWeWriteIsStrict}
+use Rattle.demands.specs.Counts.{CountIsMessages}
 use Rattle.demands.specs.Useless.{UselessManagersHaveThemNot, right}
 use Rattle.demands.specs.Starred.{Starred}
 use mathlib.Core.Bool.{true}
@@ -36,6 +37,7 @@ use Rattle.demands.proofs.Ready as ready
 use Rattle.demands.proofs.Garbled as garbled
 use Rattle.demands.proofs.Managers as managers
 use Rattle.demands.proofs.Strict as strictness
+use Rattle.demands.proofs.Counts as counts
 use Rattle.demands.proofs.Third as third
 use Rattle.demands.proofs.ByFlags as right-one
 use Rattle.demands.proofs.Useless as useless
@@ -167,7 +169,8 @@ two-orders-mean-this = record { an-exchange = sanity.swap; full-is-the-answer-fu
 
 -- "Then each channel gets the same answers and replies, and its messages are exactly those that demand 2 gives for
 -- its own events alone, each once. At the end each open channel has the same record and the same stored bytes. Only
--- where in the store a channel stands may differ."
+-- where in the store a channel stands may differ." The record has its count of messages: "Demand 3's 'same record' takes
+-- the count in."
 pub either-order-is-the-same : EitherOrderIsTheSame
 either-order-is-the-same =
     record {
@@ -198,6 +201,18 @@ strict-beside-plain =
 pub what-we-write-is-strict : WhatWeWriteIsStrict
 what-we-write-is-strict =
     record { writers = strictness.every-kind StrictBack same-values.strict-back; cutter = strictness.cut-is-strict }
+
+-- ======== Beside them: messages counted
+
+-- "Each record gains that count: the messages handed up since the opening, staying at 4,294,967,295 once there."
+pub count-is-messages : CountIsMessages
+count-is-messages =
+    record {
+      by-the-answer = counts.by-the-answer;
+      was-opened = counts.was-opened;
+      since-its-opening = counts.since-its-opening;
+      at-the-ceiling = counts.at-the-ceiling;
+    }
 
 -- ======== Behind them
 

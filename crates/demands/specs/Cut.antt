@@ -10,7 +10,7 @@ use Rattle.reading.specs.Reading.{readPdu}
 use Rattle.channel.specs.declared.Record.{Record}
 use Rattle.channel.specs.declared.Stage.the-variants.{Idle}
 use Rattle.channel.specs.declared.Answer.the-variants.{Held, Message}
-use Rattle.channel.specs.Channel.{Open, restaged}
+use Rattle.channel.specs.Channel.{Open, rebuilt}
 use Rattle.connection.specs.States.{State, view}
 use Rattle.client.specs.Events.{Event, eventOf}
 use Rattle.cutting.specs.Cutting.{cutAt, cutBuffer, packed, unpacked}
@@ -71,8 +71,8 @@ toldFor n m c =
     cond (ltb (c .next) (length m)) (record { answer = Held n (length m - c .next); reply = []; message = [] })
     (record { answer = Message n (length m); reply = []; message = m ∷ [] })
 
--- the channel is told that and nothing else, and is idle again
+-- the channel is told that and nothing else, and is idle again with one message more in its count
 pub record HandedUpOnce (n : ℕ) (m : List ℕ) (cs : List Cut) (r : Record) (st : State) (xs : List Call) : Type 0 where
   pub is-told : toldTo n st xs ≡ map (toldFor n m) cs
   pub part : List ℕ
-  pub idle-again : view n (ends st xs) ≡ Open (restaged r Idle) part
+  pub idle-again : view n (ends st xs) ≡ Open (rebuilt r Idle true) part

@@ -95,7 +95,7 @@ pub record StepsAreSo : Type 0 where
       (n : ℕ) (st : State) → Steady st → (r : Record) (b : List ℕ) (local : Bool) → view n st ≡ Open r b
       → (recordAt (stepped st (Of n (closeAct local)) .state .table) (numberPlace n (st .table)) ≡ blank)
       × (part (stepped st (Of n (closeAct local)) .state .store) (numberPlace n (st .table)) ≡ zeros PART)
-  -- an opening finds the channel as one never used, with the class by the level
+  -- an opening finds the channel as one never used, its count 0, with the class by the level
   pub opening-is-new :
       (l : ℕ) (st : State) → Running l st → (c : Call) (n pri : ℕ) → FineAct (Create true pri)
       → eventIn (c .asked) ≡ Of n (Create true pri) → view n st ≡ Shut

@@ -13,3 +13,4 @@ pub mod Demand2
 pub mod Demand3
 pub mod Garbled
 pub mod Strict
+pub mod Counts

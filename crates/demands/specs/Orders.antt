@@ -25,11 +25,11 @@ pub record SameEitherWay (st : State) (xs ys : List Call) (n : ℕ) : Type 0 whe
   pub each-once : map handed (toldTo n st xs) ≡ map once (joinAll Off (ownEvents n xs))
 
 -- "At the end each open channel has the same record and the same stored bytes. Only where in the store a channel
--- stands may differ": ready, level, and what is free are the same too
+-- stands may differ": ready, level, and what is free are the same too. The record is number, class, stage and count
 pub record SameButPlaces (a b : State) : Type 0 where
   pub ready : a .table .ready ≡ b .table .ready
   pub level : a .table .level ≡ b .table .level
-  -- each number: not open in both, or open in both with the same record and the same part
+  -- each number: not open in both, or open in both with the same record, its count too, and the same part
   pub channels : (n : ℕ) → view n a ≡ view n b
   -- every free record is as Start made it, and so is its part
   pub records-a : FreeRecordsAreBlank a
@@ -41,4 +41,5 @@ pub record SameButPlaces (a b : State) : Type 0 where
 -- full table alike; other channels are arbitrary
 pub record SameForOne (st : State) (xs ys : List Call) (n : ℕ) : Type 0 where
   pub same-told : toldTo n st xs ≡ toldTo n st ys
+  -- the same record, its count too, and the same part
   pub same-left : view n (ends st xs) ≡ view n (ends st ys)

@@ -32,3 +32,7 @@ REPLY-MIN = 9
 -- the most bytes that a listener list has
 unfoldable pub LIST-MAX : ℕ
 LIST-MAX = 512
+
+-- where a count of messages stays once there
+unfoldable pub COUNT-MAX : ℕ
+COUNT-MAX = 4294967295

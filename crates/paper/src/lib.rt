@@ -27,6 +27,9 @@ pub const REPLY_MIN: usize = 9;
 // The most bytes that a listener list has.
 pub const LIST_MAX: usize = 512;
 
+// Where a count of messages stays once there.
+pub const COUNT_MAX: u32 = 4294967295;
+
 // Cmd, the high four bits of a PDU's first byte.
 pub const CREATE: u8 = 1;
 

@@ -33,10 +33,11 @@ pub fn blank() -> Record
     ensures { λ r. ⌜ r ≡ blank ⌝ }
 {
     Record {
-        taken: false,
         number: 0,
-        class: 0,
         stage: Stage::Idle,
+        class: 0,
+        taken: false,
+        count: 0,
     }
 }
 

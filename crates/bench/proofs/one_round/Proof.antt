@@ -86,6 +86,9 @@ same-length-2 c = search needs
 returns : tie.Need-returns Inv-loop μ-loop
 returns c = search needs
 
+noted-requires : tie.Need-noted-requires Inv-loop μ-loop
+noted-requires c κs = search needs
+
 add-closes : tie.Need-add-closes Inv-loop μ-loop
 add-closes c = search needs
 
@@ -163,6 +166,7 @@ one-round-spec =
     same-length
     same-length-2
     returns
+    noted-requires
     add-closes
     sub-next-asked
     part-next-asked-start

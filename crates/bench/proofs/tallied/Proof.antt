@@ -52,28 +52,28 @@ plus-requires-8 : tie.Need-plus-requires-8
 plus-requires-8 c κs = search needs
 
 returns : tie.Need-returns
-returns c = cc
+returns c = rw (c .before .enum-told .given .1, c .plus .ensures)
 
 returns-2 : tie.Need-returns-2
-returns-2 c = cc
+returns-2 c = rw (c .before .enum-told2 .given .1, c .plus2 .ensures)
 
 returns-3 : tie.Need-returns-3
-returns-3 c = cc
+returns-3 c = rw (c .before .enum-told3 .given .1, c .plus3 .ensures)
 
 returns-4 : tie.Need-returns-4
-returns-4 c = cc
+returns-4 c = rw (c .before .enum-told4 .given .1, c .plus4 .ensures)
 
 returns-5 : tie.Need-returns-5
-returns-5 c = cc
+returns-5 c = rw (c .before .enum-told5 .given .1, c .plus5 .ensures)
 
 returns-6 : tie.Need-returns-6
-returns-6 c = cc
+returns-6 c = rw (c .before .enum-told6 .given .1, c .plus6 .ensures)
 
 returns-7 : tie.Need-returns-7
-returns-7 c = cc
+returns-7 c = rw (c .before .enum-told7 .given .1, c .plus7 .ensures)
 
 returns-8 : tie.Need-returns-8
-returns-8 c = cc
+returns-8 c = rw (c .before .enum-told8 .given .1, c .plus8 .ensures)
 
 pub tallied-spec : {M : Type 1} → statement M
 tallied-spec =
