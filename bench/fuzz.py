@@ -1,5 +1,5 @@
 #!/usr/bin/env python3
-"""Compares two walkers, or two programs that print the messages handed up, on generated inputs.
+"""Compares two walkers, or two programs that print the messages handed up or counts, on generated inputs.
 
 usage: fuzz.py SEED COUNT KEEP WALKER [WORD..] -- WALKER [WORD..]
 
@@ -336,6 +336,10 @@ def main():
         for text in a.split(b"\n")[:-1]:
             parts = text.decode().split(" ")
             if parts[0] == "pdu":
+                continue
+            if len(parts) == 2 and parts[1].isdigit():
+                words[parts[0]] = words.get(parts[0], 0) + int(parts[1])
+                pdus += 1
                 continue
             if len(parts) == 3:
                 word = "messages of no bytes" if parts[2] == "-" else "messages of bytes"
