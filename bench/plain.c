@@ -5,6 +5,8 @@
  *
  *   plain walk < PDUS         a line for each PDU; the one listener is PUMP
  *   plain messages < PDUS     the bytes of each message handed up
+ *   plain lamp < PDUS         after each PDU, or local close, the open channels
+ *                             and the bytes still to come
  *   plain bench ROUNDS FILE   all PDUs of FILE, ROUNDS times, each round from
  *                             Start and ended by closing what is open; how
  *                             many calls got each answer, and the messages
@@ -266,6 +268,7 @@ struct channel {
 struct manager {
     bool ready;
     uint8_t level;
+    uint32_t open, awaited; /* channels, and bytes still to come over all that are joining */
     struct channel channels[CHANNELS];
     uint8_t store[CHANNELS][MESSAGE_MAX];
 };
@@ -350,20 +353,27 @@ static struct answer on_create(struct manager *m, const struct pdu *pdu, const u
     ch->priority_class = m->level == 2 ? pdu->priority : 0;
     ch->stage = IDLE;
     ch->count = 0;
+    m->open++;
     return answered(OPENED, number, 0, put_create_response(reply, number, 0));
+}
+
+static uint32_t to_come(const struct channel *ch)
+{
+    return ch->stage == JOINING ? (uint32_t)ch->wanted - ch->held : 0;
 }
 
 /* What is wrong with a block stays wrong: the rest of its message must not
  * pass for messages of its own, so the channel is spoiled until it is closed. */
-static void set_spoiled(struct channel *ch)
+static void set_spoiled(struct manager *m, struct channel *ch)
 {
+    m->awaited -= to_come(ch);
     ch->stage = SPOILED;
     ch->wanted = ch->held = 0;
 }
 
-static struct answer spoil(struct channel *ch, enum refusal refusal)
+static struct answer spoil(struct manager *m, struct channel *ch, enum refusal refusal)
 {
-    set_spoiled(ch);
+    set_spoiled(m, ch);
     return refused_channel(refusal, ch->number);
 }
 
@@ -374,7 +384,7 @@ static void on_garbled(struct manager *m, const uint8_t *bytes, size_t length)
     struct channel *ch = block_number(bytes, length, &number) ? find(m, number) : NULL;
 
     if (ch != NULL)
-        set_spoiled(ch);
+        set_spoiled(m, ch);
 }
 
 static struct answer on_data(struct manager *m, const struct pdu *pdu)
@@ -389,20 +399,21 @@ static struct answer on_data(struct manager *m, const struct pdu *pdu)
         return refused_channel(SPOILED_CHANNEL, pdu->number);
     if (ch->stage == JOINING) {
         if (pdu->command == DATA_FIRST)
-            return spoil(ch, FIRST_WHILE_JOINING);
+            return spoil(m, ch, FIRST_WHILE_JOINING);
         wanted = ch->wanted;
         held = ch->held;
     } else {
         wanted = pdu->command == DATA_FIRST ? pdu->length : (uint32_t)n;
         held = 0;
         if (wanted > MESSAGE_MAX)
-            return spoil(ch, LENGTH_OVER);
+            return spoil(m, ch, LENGTH_OVER);
     }
     if (n > wanted - held)
-        return spoil(ch, BLOCK_OVER);
+        return spoil(m, ch, BLOCK_OVER);
 
     memcpy(m->store[ch - m->channels] + held, pdu->body, n);
     held += (uint32_t)n;
+    m->awaited += wanted - held - to_come(ch);
     if (held == wanted) {
         ch->stage = IDLE;
         ch->wanted = ch->held = 0;
@@ -421,6 +432,8 @@ static struct answer closed(struct manager *m, struct channel *ch, uint8_t *repl
     uint32_t number = ch->number;
 
     memset(m->store[ch - m->channels], 0, MESSAGE_MAX);
+    m->open--;
+    m->awaited -= to_come(ch);
     *ch = (struct channel){0};
     return answered(CLOSED, number, 0, put_header(reply, CLOSE, number));
 }
@@ -449,10 +462,11 @@ static struct answer local_close(struct manager *m, uint32_t number, uint8_t rep
 
 #ifdef SOUND
 /* No number in two open channels, no class over 3, while joining held below wanted and wanted at most MESSAGE_MAX; nothing
- * open when not ready, and when ready level 1 or 2. */
+ * open when not ready, and when ready level 1 or 2; and the totals are what a recount comes to. */
 static bool sound(const struct manager *m)
 {
     uint64_t seen = 0;
+    uint32_t open = 0, awaited = 0;
 
     if (m->ready && m->level != 1 && m->level != 2)
         return false;
@@ -469,6 +483,8 @@ static bool sound(const struct manager *m)
             continue;
         if (!m->ready)
             return false;
+        open++;
+        awaited += to_come(ch);
         bit = UINT64_C(1) << (ch->number & 63);
         if (seen & bit) /* the same number, or another with the same low bits */
             for (const struct channel *before = m->channels; before < ch; before++)
@@ -476,7 +492,7 @@ static bool sound(const struct manager *m)
                     return false;
         seen |= bit;
     }
-    return true;
+    return open == m->open && awaited == m->awaited;
 }
 #endif
 
@@ -528,12 +544,27 @@ static void print_answer(uint64_t place, const struct answer *a)
     printf(" %lu %zu\n", (unsigned long)a->number, a->reply_length);
 }
 
-static int walk(void)
+/* A record for the lamp: one whose first byte is 0, which no command has, is a local close of the number behind it. */
+static void move(const uint8_t *record, size_t length)
+{
+    uint32_t number = 0;
+
+    if (length == 0 || record[0] != 0) {
+        receive(&the_manager, record, length, listeners, sizeof listeners, the_reply);
+        return;
+    }
+    for (size_t i = 1; i < length && i < 5; i++)
+        number |= (uint32_t)record[i] << 8 * (i - 1);
+    local_close(&the_manager, number, the_reply);
+}
+
+/* A line for each record: what was answered, or the totals. */
+static int walk(bool lamp)
 {
     static uint8_t record[RECORD_MAX];
 
     start(&the_manager);
-    puts("pdu answer channel number reply");
+    puts(lamp ? "pdu channels awaited" : "pdu answer channel number reply");
     for (uint64_t place = 0;; place++) {
         uint8_t prefix[2];
         size_t got = fread(prefix, 1, sizeof prefix, stdin);
@@ -546,6 +577,12 @@ static int walk(void)
         if (got < sizeof prefix || fread(record, 1, length, stdin) < length) {
             printf("%llu cut\n", (unsigned long long)place);
             break;
+        }
+        if (lamp) {
+            move(record, length);
+            printf("%llu %lu %lu\n", (unsigned long long)place, (unsigned long)the_manager.open,
+                   (unsigned long)the_manager.awaited);
+            continue;
         }
         a = receive(&the_manager, record, length, listeners, sizeof listeners, the_reply);
         print_answer(place, &a);
@@ -669,11 +706,13 @@ int main(int argc, char **argv)
     uint32_t rounds;
 
     if (argc == 2 && strcmp(argv[1], "walk") == 0)
-        return walk();
+        return walk(false);
+    if (argc == 2 && strcmp(argv[1], "lamp") == 0)
+        return walk(true);
     if (argc == 2 && strcmp(argv[1], "messages") == 0)
         return messages();
     if (argc == 4 && strcmp(argv[1], "bench") == 0 && read_count(argv[2], &rounds))
         return bench(rounds, argv[3]);
-    puts("usage: plain walk | plain messages | plain bench ROUNDS FILE");
+    puts("usage: plain walk | plain messages | plain lamp | plain bench ROUNDS FILE");
     return 2;
 }

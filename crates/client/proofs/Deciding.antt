@@ -79,7 +79,7 @@ module _ (n : ℕ) (t : Table) (store : List ℕ) (long : length (t .records) �
   abbrev left : List ℕ → Decided → Stepped
   left block d =
       record {
-        state = stateOf (putBack t (d .ready) (d .level) home (d .turn .change)) (kept store home (d .turn .part) block);
+        state = stateOf (putBack t (d .ready) (d .level) home found (d .turn .change)) (kept store home (d .turn .part) block);
         answer = d .turn .answer;
         reply = replyTold n (d .turn .reply);
       }
@@ -91,7 +91,7 @@ module _ (n : ℕ) (t : Table) (store : List ℕ) (long : length (t .records) �
   abbrev Placed : Decided → Type 0
   Placed d =
       placeIf (concernOf (d .turn .answer)) (placeAfter home (found .taken) (d .turn .change)) ≡ placeFor (putBack t (d .ready)
-      (d .level) home (d .turn .change)) (concernOf (d .turn .answer))
+      (d .level) home found (d .turn .change)) (concernOf (d .turn .answer))
 
   -- a step that was decided so
   abbrev Comes-to : Stepped → List ℕ → Decided → Type 0
@@ -103,18 +103,18 @@ module _ (n : ℕ) (t : Table) (store : List ℕ) (long : length (t .records) �
 
   own-place :
       (d : Decided) → concernOf (d .turn .answer) ≡ Channel n
-      → numberPlace n (putBack t (d .ready) (d .level) home (d .turn .change)) ≡ placeAfter home (found .taken) (d .turn .change)
+      → numberPlace n (putBack t (d .ready) (d .level) home found (d .turn .change)) ≡ placeAfter home (found .taken) (d .turn .change)
       → Placed d
   unfolding placeIf placeFor
   own-place d e f = rw e (sym f)
 
   refused-step : (why : Refusal) (block : List ℕ) → Comes-to (refused (stateOf t store) why) block (refusing (t .ready) (t .level) why)
   unfolding refusing kept replyTold concernOf
-  refused-step why block = (rw (put-stays t (t .ready) (t .level) home long) refl, no-place (refusing (t .ready) (t .level) why) refl)
+  refused-step why block = (rw (put-stays t (t .ready) (t .level) home found long) refl, no-place (refusing (t .ready) (t .level) why) refl)
 
   ready-step : (version : ℕ) (block : List ℕ) → Comes-to (readied (stateOf t store) version) block (readying version)
   unfolding readying readied kept replyTold concernOf
-  ready-step version block = (rw (put-stays t true (levelFor version) home long) refl, no-place (readying version) refl)
+  ready-step version block = (rw (put-stays t true (levelFor version) home found long) refl, no-place (readying version) refl)
 
   turn-step :
       (ask : Ask) (block : List ℕ) → t .ready ≡ true
@@ -124,7 +124,7 @@ module _ (n : ℕ) (t : Table) (store : List ℕ) (long : length (t .records) �
       let st = stateOf t store in
       let turn = taken n t store long h ask block in
       let says = turn-says (t .level) n (ltb home PARTS) found (own-number n t long sound) ask (length block) in
-      let stays = number-after n t long sound (t .ready) (t .level) (turn .change) (says .0) in (
+      let stays = number-after n t long sound (t .ready) (t .level) found (turn .change) (says .0) in (
         in-time st n (actOf ask block) (view n st) e refl
             ∙ finished-does n st _ (view n st) (rules n t store long h ask block) turn (turn-does n t store long h ask block),
         ⊎-elim (λ c. own-place (taking (t .ready) (t .level) turn) c stays) (λ c. no-place (taking (t .ready) (t .level) turn) c)
@@ -210,7 +210,7 @@ module _ (n : ℕ) (t : Table) (store : List ℕ) (long : length (t .records) �
       → d ≡ decidedOf (t .ready) (t .level) n (ltb (f .place) PARTS) (f .row) matter (length block)
       → (reply storeAfter replyAfter : List ℕ) (r : Received)
       → r ≡ record {
-        table = putBack t (d .ready) (d .level) (f .place) (d .turn .change);
+        table = putBack t (d .ready) (d .level) (f .place) (f .row) (d .turn .change);
         answer = d .turn .answer;
         sent = length (replyTold n (d .turn .reply));
         place = placeIf (concernOf (d .turn .answer)) (placeAfter (f .place) (f .row .taken) (d .turn .change));

@@ -1,4 +1,4 @@
-// The client end: start, receive, local close.
+// The client end: start, receive, local close, and the two totals.
 //
 // The host keeps the table and the store. `start` makes both; then each received PDU goes to `receive` and each close by
 // the host to `local_close`, with the table of the call before. A refusal writes nothing to store and reply and changes no
@@ -16,6 +16,7 @@ use reading::Carried;
 use reading::Extent;
 use reading::Pdu;
 use table::Table;
+use table::Totals;
 ghost use mathlib.Core.Path.{_≡_};
 ghost use mathlib.Core.Bool.{true};
 ghost use lib.ListN.{length};
@@ -210,7 +211,7 @@ fn taken(
     let part = turn.part;
     let answer = turn.answer;
     let what = turn.reply;
-    let next = table::put(table, decided.ready, decided.level, k, change);
+    let next = table::put(table, decided.ready, decided.level, k, row, change);
     let sent = lay(reply, number, what);
     connection::keep(store, k, part, block);
     Received {
@@ -312,4 +313,12 @@ pub fn local_close(table: Table, store: &mut [u8], number: u32, reply: &mut [u8]
     ensures { λ _. ⌜ now (reply .exit) ≡ locallyClosed table (now (store .entry)) number (now (reply .entry)) .reply ⌝ }
 {
     step(table, store, closing(number), b"", reply)
+}
+
+// The open channels and the bytes still to come over all joining ones, of any table, without going through its records. In
+// every table that a call gives they are what a recount comes to.
+pub fn totals(table: Table) -> Totals
+    ensures { λ r. ⌜ r ≡ table .totals ⌝ }
+{
+    table.totals
 }

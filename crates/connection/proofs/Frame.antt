@@ -63,7 +63,7 @@ module _ (st : State) (g : Steady st) (k : ℕ) (r : Record) (bytes : List ℕ) 
       record {
         rows = rows-kept;
         bytes = bytes-kept;
-        sound = sound-with (st .table) k r (g .sound) (g .ready) (f .class) (f .stage) alone;
+        sound = sound-with (st .table) k r (g .rows) (g .sound) (g .ready) (f .class) (f .stage) alone;
         ready = g .ready;
       }
 

@@ -18,7 +18,7 @@ use Rattle.channel.specs.declared.Change.the-variants.{Stays, Becomes, Frees}
 use Rattle.channel.specs.Channel.{blank}
 use Rattle.channel.proofs.Turns.{Rightly}
 use Rattle.table.specs.declared.Table.{Table}
-use Rattle.table.specs.Table.{holds, numberPlace, freePlace, recordAt, withRecord, homePlace, siteOf, nextOf, putBack}
+use Rattle.table.specs.Table.{holds, numberPlace, freePlace, recordAt, placed, withRecord, homePlace, siteOf, nextOf, putBack}
 use Rattle.table.specs.Sound.{soundTable}
 use Rattle.table.proofs.Records.{with-past, at-same, at-any, number-holds, number-none, none-number}
 use Rattle.table.proofs.Twice.{holds-says, holds-own, holds-none}
@@ -28,10 +28,10 @@ use Rattle.connection.proofs.Putting.{past-blank}
 
 -- where a number stands hangs on the records alone
 same-rows :
-    (n : ℕ) (t : Table) (ready : Bool) (level k : ℕ) (change : Change)
-    → numberPlace n (putBack t ready level k change) ≡ numberPlace n (withRecord t (siteOf k change) (nextOf change))
-unfolding numberPlace putBack withRecord
-same-rows n t ready level k change = refl
+    (n : ℕ) (t : Table) (ready : Bool) (level k : ℕ) (row : Record) (change : Change)
+    → numberPlace n (putBack t ready level k row change) ≡ numberPlace n (withRecord t (siteOf k change) (nextOf change))
+unfolding numberPlace putBack placed withRecord
+same-rows n t ready level k row change = refl
 
 module _ (n : ℕ) (t : Table) (long : length (t .records) ≡ PARTS) (sound : soundTable t ≡ true) where
   abbrev found : Record
@@ -119,11 +119,11 @@ module _ (n : ℕ) (t : Table) (long : length (t .records) ≡ PARTS) (sound : s
       go false e = ltb-true home PARTS (f e)
 
   pub number-after :
-      (ready : Bool) (level : ℕ) (change : Change) → Rightly n (ltb home PARTS) found change
-      → numberPlace n (putBack t ready level home change) ≡ placeAfter home (found .taken) change
+      (ready : Bool) (level : ℕ) (row : Record) (change : Change) → Rightly n (ltb home PARTS) found change
+      → numberPlace n (putBack t ready level home row change) ≡ placeAfter home (found .taken) change
   unfolding placeAfter stands siteOf nextOf
-  number-after ready level Stays x =
-      same-rows n t ready level home Stays ∙ ap (numberPlace n) (with-past t PARTS blank (rw long (omega arith))) ∙ stayed
-  number-after ready level (Becomes r) x =
-      same-rows n t ready level home (Becomes r) ∙ becomes r (holds-own n r (x .0) (x .1)) (room-home (x .2))
-  number-after ready level Frees x = same-rows n t ready level home Frees ∙ frees (at-home x)
+  number-after ready level row Stays x =
+      same-rows n t ready level home row Stays ∙ ap (numberPlace n) (with-past t PARTS blank (rw long (omega arith))) ∙ stayed
+  number-after ready level row (Becomes r) x =
+      same-rows n t ready level home row (Becomes r) ∙ becomes r (holds-own n r (x .0) (x .1)) (room-home (x .2))
+  number-after ready level row Frees x = same-rows n t ready level home row Frees ∙ frees (at-home x)

@@ -9,6 +9,7 @@ use native.Mathlib.Omega.{arith}
 use borrow.Author.Tests.{lt-ltb, le-ltb}
 use lib.Dec.{ltb}
 use lib.ListN.{length}
+use lib.Seq.{getD-set-same}
 use Rattle.paper.specs.Sizes.{PART, PARTS, STORE}
 use Rattle.paper.specs.declared.Refusal.{Refusal}
 use Rattle.lists.specs.Bytes.{zeros}
@@ -26,8 +27,10 @@ use Rattle.channel.specs.Channel.{NoRoom, Spare, Did, act, opening}
 use Rattle.channel.specs.Turns.{garbling, turnOf, viewOf, roomOf, actOf, partTold, replyTold}
 use Rattle.channel.proofs.Turns.{Comes, Tells, turn-rules, garbles-rules, view-open as seen-open}
 use Rattle.table.specs.declared.Table.{Table}
-use Rattle.table.specs.Table.{numberPlace, freePlace, recordAt, withRecord, homePlace, siteOf, nextOf, putBack}
-use Rattle.table.proofs.Records.{with-past, at-past, number-holds}
+use Rattle.table.specs.Table.{numberPlace, freePlace, recordAt, placed, withRecord, homePlace, siteOf, nextOf, totalsAfter, putBack}
+use Rattle.table.specs.Totals.{opens, awaits, changed}
+use Rattle.table.proofs.Records.{placed-past, at-past, number-holds, free-at}
+use Rattle.table.proofs.Recount.{changed-alike, opens-none, awaits-none}
 use Rattle.table.proofs.Twice.{holds-says}
 use Rattle.store.specs.Parts.{part, withPart, blockPut, partCleared}
 use Rattle.store.proofs.Parts.{there, put-there, cleared-there}
@@ -68,19 +71,28 @@ open-not-shut r bytes e = true-not-false (sym (ap isShut e))
 -- ---- the table
 
 pub put-stays :
-    (t : Table) (ready : Bool) (level k : ℕ) → length (t .records) ≡ PARTS
-    → putBack t ready level k Stays ≡ record { ready = ready; level = level; records = t .records }
-unfolding putBack siteOf nextOf
-put-stays t ready level k h =
-    ap (λ (x : Table). record { ready = ready; level = level; records = x .records }) (with-past t PARTS blank (rw h (omega arith)))
+    (t : Table) (ready : Bool) (level k : ℕ) (row : Record) → length (t .records) ≡ PARTS
+    → putBack t ready level k row Stays ≡ record { totals = t .totals; ready = ready; level = level; records = t .records }
+unfolding putBack siteOf nextOf totalsAfter
+put-stays t ready level k row h =
+    ap (λ (x : Table). record { totals = t .totals; ready = ready; level = level; records = x .records })
+    (placed-past t PARTS blank (rw h (omega arith)))
 
-put-becomes : (t : Table) (k : ℕ) (r : Record) → putBack t (t .ready) (t .level) k (Becomes r) ≡ withRecord t k r
-unfolding putBack siteOf nextOf withRecord
-put-becomes t k r = refl
+-- where `row` adds to the totals what the record there does
+module _ (t : Table) (k : ℕ) (row : Record) (l : k < length (t .records)) (opened : opens row ≡ opens (recordAt t k))
+    (awaited : awaits row ≡ awaits (recordAt t k)) where
+  moved-there : (r : Record) → changed (t .totals) row r ≡ withRecord t k r .totals
+  unfolding withRecord placed recordAt
+  moved-there r =
+      rw (changed-alike (t .totals) row (recordAt t k) r opened awaited, getD-set-same (t .records) k r blank l) refl
 
-put-frees : (t : Table) (k : ℕ) → putBack t (t .ready) (t .level) k Frees ≡ withRecord t k blank
-unfolding putBack siteOf nextOf withRecord
-put-frees t k = refl
+  put-becomes : (r : Record) → putBack t (t .ready) (t .level) k row (Becomes r) ≡ withRecord t k r
+  unfolding putBack siteOf nextOf totalsAfter withRecord placed
+  put-becomes r = rw (moved-there r) refl
+
+  put-frees : putBack t (t .ready) (t .level) k row Frees ≡ withRecord t k blank
+  unfolding putBack siteOf nextOf totalsAfter withRecord placed
+  put-frees = rw (moved-there blank) refl
 
 -- ---- the store
 
@@ -93,8 +105,8 @@ kept-part store k (Takes at) block h l = put-there store k at block (there store
 kept-part store k Clears block h l = cleared-there store k (there store k h l)
 
 -- what a turn leaves of the state
-abbrev pub left : Table → List ℕ → ℕ → List ℕ → Turn → State
-left t store k block turn = stateOf (putBack t (t .ready) (t .level) k (turn .change)) (kept store k (turn .part) block)
+abbrev pub left : Table → List ℕ → ℕ → Record → List ℕ → Turn → State
+left t store k row block turn = stateOf (putBack t (t .ready) (t .level) k row (turn .change)) (kept store k (turn .part) block)
 
 -- ---- a channel that is open
 
@@ -103,39 +115,55 @@ module _ (n : ℕ) (t : Table) (store : List ℕ) (k : ℕ) (row : Record) (long
   abbrev st : State
   st = stateOf t store
 
+  within : k < length (t .records)
+  within = rw long l
+
   open-saved :
       (block : List ℕ) (turn : Turn) (new : View) → Comes row (part store k) block (turn .change) (turn .part) new
-      → save n st (Open row (part store k)) new ≡ left t store k block turn
+      → save n st (Open row (part store k)) new ≡ left t store k row block turn
   unfolding save wrote kept
   open-saved block turn new c = go (turn .change) (turn .part) c
     where
       go :
           (change : Change) (p : Part) → Comes row (part store k) block change p new
-          → save n st (Open row (part store k)) new ≡ stateOf (putBack t (t .ready) (t .level) k change) (kept store k p block)
+          → save n st (Open row (part store k)) new ≡ stateOf (putBack t (t .ready) (t .level) k row change) (kept store k p block)
       go Stays p x =
-          rw (x .0, x .1 ∙ seen-open row (part store k) g, put-stays t (t .ready) (t .level) k long)
+          rw (x .0, x .1 ∙ seen-open row (part store k) g, put-stays t (t .ready) (t .level) k row long)
           (ap (λ (j : ℕ). wrote st j row (part store k)) (sym e) ∙ ap (λ (r : Record). wrote st k r (part store k)) f
           ∙ wrote-own st k h l)
-      go (Becomes r) p x = rw (x, put-becomes t k r, kept-part store k p block h l, ← e) refl
-      go Frees p x = rw (x .2, x .0, put-frees t k, cleared-there store k (there store k h l), ← e) refl
+      go (Becomes r) p x = rw (x, put-becomes t k row within (ap opens f) (ap awaits f) r, kept-part store k p block h l, ← e) refl
+      go Frees p x =
+          rw (x .2, x .0, put-frees t k row within (ap opens f) (ap awaits f), cleared-there store k (there store k h l), ← e) refl
 
 -- ---- a channel that is shut
 
 module _ (n : ℕ) (t : Table) (store : List ℕ) (k : ℕ) (row : Record) (long : length (t .records) ≡ PARTS) (h : length store ≡ STORE)
     (e : k ≡ freePlace t) (f : row ≡ blank) where
+  free : k < PARTS → recordAt t k .taken ≡ false
+  free l = rw e (free-at t (omega (arith, l, long, e)))
+
+  shut : row .taken ≡ false
+  shut = rw f refl
+
+  no-channel : k < PARTS → opens row ≡ opens (recordAt t k)
+  no-channel l = opens-none row shut ∙ sym (opens-none (recordAt t k) (free l))
+
+  no-bytes : k < PARTS → awaits row ≡ awaits (recordAt t k)
+  no-bytes l = awaits-none row shut ∙ sym (awaits-none (recordAt t k) (free l))
+
   shut-saved :
       (block : List ℕ) (turn : Turn) (new : View) → (PARTS ≤ k → new ≡ Shut)
-      → Comes row (part store k) block (turn .change) (turn .part) new → save n (stateOf t store) Shut new ≡ left t store k block turn
+      → Comes row (part store k) block (turn .change) (turn .part) new → save n (stateOf t store) Shut new ≡ left t store k row block turn
   unfolding save wrote kept viewOf
   shut-saved block turn new none c = go (turn .change) (turn .part) c
     where
       go :
           (change : Change) (p : Part) → Comes row (part store k) block change p new
-          → save n (stateOf t store) Shut new ≡ stateOf (putBack t (t .ready) (t .level) k change) (kept store k p block)
-      go Stays p x = rw (x .0, x .1, f, put-stays t (t .ready) (t .level) k long) refl
+          → save n (stateOf t store) Shut new ≡ stateOf (putBack t (t .ready) (t .level) k row change) (kept store k p block)
+      go Stays p x = rw (x .0, x .1, put-stays t (t .ready) (t .level) k row long, f) refl
       go (Becomes r) p x =
           ⊎-elim
-          (λ (l : k < PARTS). rw (x, put-becomes t k r, kept-part store k p block h l, ← e) refl)
+          (λ (l : k < PARTS). rw (x, put-becomes t k row (rw long l) (no-channel l) (no-bytes l) r, kept-part store k p block h l, ← e) refl)
           (λ (l : PARTS ≤ k). absurd (open-not-shut _ _ (sym x ∙ none l)))
           (lt-or-le k PARTS)
       go Frees p x = absurd (true-not-false (sym (x .1) ∙ ap (λ (r : Record). r .taken) f))
@@ -180,7 +208,7 @@ module _ (n : ℕ) (t : Table) (store : List ℕ) (long : length (t .records) �
   open-turn :
       (a : Act) (block : List ℕ) (turn : Turn) → numberPlace n t < PARTS
       → Tells n found (part store (numberPlace n t)) block turn (act (t .level) n (roomIn here) (Open found (part store (numberPlace n t))) a)
-      → Does n here (left t store home block turn) turn (view n here) (act (t .level) n (roomIn here) (view n here) a)
+      → Does n here (left t store home found block turn) turn (view n here) (act (t .level) n (roomIn here) (view n here) a)
   open-turn a block turn l tells =
       rw (view-open n here (numberPlace n t) refl l, at-home l)
       (record {
@@ -191,7 +219,7 @@ module _ (n : ℕ) (t : Table) (store : List ℕ) (long : length (t .records) �
 
   open-does :
       (ask : Ask) (block : List ℕ) → numberPlace n t < PARTS
-      → Does n here (left t store home block (taken ask block)) (taken ask block) (view n here) (rules ask block)
+      → Does n here (left t store home found block (taken ask block)) (taken ask block) (view n here) (rules ask block)
   open-does ask block l =
       let place = numberPlace n t in
       let tells = rw (
@@ -205,7 +233,7 @@ module _ (n : ℕ) (t : Table) (store : List ℕ) (long : length (t .records) �
   -- a garbled block on an open channel
   pub garbled-does :
       (why : Refusal) (block : List ℕ) → numberPlace n t < PARTS
-      → Does n here (left t store home block (garbling found why)) (garbling found why) (view n here)
+      → Does n here (left t store home found block (garbling found why)) (garbling found why) (view n here)
       (act (t .level) n (roomIn here) (view n here) (Garbled why))
   garbled-does why block l =
       open-turn (Garbled why) block (garbling found why) l
@@ -213,7 +241,7 @@ module _ (n : ℕ) (t : Table) (store : List ℕ) (long : length (t .records) �
 
   shut-does :
       (ask : Ask) (block : List ℕ) → PARTS ≤ numberPlace n t
-      → Does n here (left t store home block (taken ask block)) (taken ask block) (view n here) (rules ask block)
+      → Does n here (left t store home found block (taken ask block)) (taken ask block) (view n here) (rules ask block)
   unfolding homePlace roomIn roomAt roomOf viewOf
   shut-does ask block l =
       let at-home : homePlace n t ≡ freePlace t = rw (le-ltb (numberPlace n t) PARTS l) refl in
@@ -235,5 +263,5 @@ module _ (n : ℕ) (t : Table) (store : List ℕ) (long : length (t .records) �
 
   pub turn-does :
       (ask : Ask) (block : List ℕ)
-      → Does n here (left t store home block (taken ask block)) (taken ask block) (view n here) (rules ask block)
+      → Does n here (left t store home found block (taken ask block)) (taken ask block) (view n here) (rules ask block)
   turn-does ask block = ⊎-elim (open-does ask block) (shut-does ask block) (lt-or-le (numberPlace n t) PARTS)

@@ -5,12 +5,13 @@ use mathlib.Core.List.{List}
 use mathlib.Core.Logic.{⊎-elim}
 use Prim.Native.Nat.{ℕ, _≤_, _<_}
 use borrow.Author.Tests.{lt-ltb, le-ltb}
-use lib.ListN.{length}
+use lib.ListN.{length, getD}
 use lib.Seq.{set-getD}
 use Rattle.paper.specs.Sizes.{PARTS, STORE}
 use Rattle.lists.proofs.Cases.{lt-or-le}
-use Rattle.channel.specs.Channel.{Shut, Open, NoRoom, Spare}
-use Rattle.table.specs.Table.{numberPlace, freePlace, recordAt, withRecord}
+use Rattle.channel.specs.Channel.{blank, Shut, Open, NoRoom, Spare}
+use Rattle.table.specs.Table.{numberPlace, freePlace, recordAt, placed, withRecord}
+use Rattle.table.proofs.Recount.{changed-same}
 use Rattle.store.specs.Parts.{part, withPart}
 use Rattle.store.proofs.Parts.{there, inside, with-own}
 use Rattle.connection.specs.States.{State, viewAt, view, roomAt, roomIn, wrote, save}
@@ -44,8 +45,9 @@ own-part store k h l = with-own store k (inside store k (there store k h l))
 -- a record and its part put back as they were
 pub wrote-own :
     (st : State) (k : ℕ) → length (st .store) ≡ STORE → k < PARTS → wrote st k (recordAt (st .table) k) (part (st .store) k) ≡ st
-unfolding wrote withRecord recordAt
-wrote-own st k h l = rw (set-getD, own-part (st .store) k h l)
+unfolding wrote withRecord placed recordAt
+wrote-own st k h l =
+    rw (set-getD, changed-same (st .table .totals) (getD (st .table .records) k blank), own-part (st .store) k h l)
 
 -- a channel put back as it was
 pub save-own : (n : ℕ) (st : State) → length (st .store) ≡ STORE → save n st (view n st) (view n st) ≡ st

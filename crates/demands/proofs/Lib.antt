@@ -3,6 +3,7 @@ pub mod Traces
 pub mod Machine
 pub mod Joined
 pub mod Telling
+pub mod Totals
 pub mod Orders
 pub mod Twice
 pub mod Sanity

@@ -7,6 +7,7 @@ use Rattle.demands.specs.Demand3.{AConnectionJustMadeReady, TwoOrdersMea
 use Rattle.demands.specs.Garbled.{WhichAreGarbled, AGarbledBlockSpoils, NoHalfMessageIsHandedUp}
 use Rattle.demands.specs.Strict.{OneMeaningOneByteString, StrictBesidePlain, WhatWeWriteIsStrict}
 use Rattle.demands.specs.Counts.{CountIsMessages}
+use Rattle.demands.specs.Totals.{TotalsAreTheRecount}
 use Rattle.demands.specs.Useless.{UselessManagersHaveThemNot, right}
 use Rattle.demands.specs.Starred.{Starred}
 use mathlib.Core.Bool.{true}
@@ -22,6 +23,7 @@ use Rattle.writing.proofs.SameValues as same-values
 use Rattle.writing.proofs.Refusals as writing
 use Rattle.cutting.proofs.Refusals as cutting
 use Rattle.reading.specs.Reading.{readPdu}
+use Rattle.table.proofs.Soundness as soundness
 use Rattle.steps.proofs.Calm as calm
 use Rattle.steps.proofs.Refusals as refusals
 use Rattle.steps.proofs.Leaves as leaves
@@ -38,6 +40,7 @@ use Rattle.demands.proofs.Garbled as garbled
 use Rattle.demands.proofs.Managers as managers
 use Rattle.demands.proofs.Strict as strictness
 use Rattle.demands.proofs.Counts as counts
+use Rattle.demands.proofs.Totals as totals
 use Rattle.demands.proofs.Third as third
 use Rattle.demands.proofs.ByFlags as right-one
 use Rattle.demands.proofs.Useless as useless
@@ -170,7 +173,7 @@ two-orders-mean-this = record { an-exchange = sanity.swap; full-is-the-answer-fu
 -- "Then each channel gets the same answers and replies, and its messages are exactly those that demand 2 gives for
 -- its own events alone, each once. At the end each open channel has the same record and the same stored bytes. Only
 -- where in the store a channel stands may differ." The record has its count of messages: "Demand 3's 'same record' takes
--- the count in."
+-- the count in." And the two totals of the connection: "Demand 3 gains: both are the same after either order."
 pub either-order-is-the-same : EitherOrderIsTheSame
 either-order-is-the-same =
     record {
@@ -212,6 +215,22 @@ count-is-messages =
       was-opened = counts.was-opened;
       since-its-opening = counts.since-its-opening;
       at-the-ceiling = counts.at-the-ceiling;
+    }
+
+-- ======== Beside them: open channels and bytes awaited, at once
+
+-- "After every call on a sound table, refusals included, they equal the full recount, and a table whose totals differ from it
+-- is unsound." That they are the same after either order stands with demand 3
+pub totals-are-the-recount : TotalsAreTheRecount
+totals-are-the-recount =
+    record {
+      for-example = totals.for-example;
+      receive = totals.received-totals;
+      local-close = totals.closed-totals;
+      start = totals.started-totals;
+      else-unsound = totals.else-unsound;
+      else-refused = totals.else-refused;
+      at-most = soundness.totals-most;
     }
 
 -- ======== Behind them

@@ -29,6 +29,7 @@ use Rattle.demands.specs.Joining.{Off, brought, joinWith, handed, once}
 use Rattle.demands.specs.Telling.{toldWith}
 use Rattle.demands.specs.Orders.{TwoOrders, NeverFull, SameEitherWay, SameButPlaces, SameForOne}
 use Rattle.demands.proofs.Traces.{Input, withFlag, eventsIn, flagsIn, trace-inv, trace-outs, same-outs, same-final, inputs-same, inputs-events, inputs-flags, never-seen}
+use Rattle.demands.proofs.Totals.{same-channels}
 use Rattle.demands.proofs.Machine.{readCall, chanNext, chanOut, framed, not-bad, call-state, fine-call}
 use Rattle.demands.proofs.Joined.{AllFine, joinOf, SoundView, call-blocks}
 use Rattle.demands.proofs.Telling.{run-told, with-brings, with-once, unflagged}
@@ -40,13 +41,13 @@ unfolding startedOn started storeStarted
 started-is store h = rw (eq-eqb (length store) STORE h)
 
 -- the empty table holds no number
-no-number : (n level : ℕ) → PARTS ≡ numberPlace n (record { ready = true; level = level; records = emptyTable .records })
+no-number : (n level : ℕ) → PARTS ≡ numberPlace n (record { totals = emptyTable .totals; ready = true; level = level; records = emptyTable .records })
 unfolding numberPlace emptyTable PARTS place holds
 no-number n level = refl
 
 empty-shut :
-    (n level : ℕ) (store : List ℕ) → view n (stateOf (record { ready = true; level = level; records = emptyTable .records }) store) ≡ Shut
-empty-shut n level store = view-shut n (stateOf (record { ready = true; level = level; records = emptyTable .records }) store) PARTS (no-number n level) (omega arith)
+    (n level : ℕ) (store : List ℕ) → view n (stateOf (record { totals = emptyTable .totals; ready = true; level = level; records = emptyTable .records }) store) ≡ Shut
+empty-shut n level store = view-shut n (stateOf (record { totals = emptyTable .totals; ready = true; level = level; records = emptyTable .records }) store) PARTS (no-number n level) (omega arith)
 
 -- what the Capabilities request makes of it
 pub record Fresh (st : State) : Type 0 where
@@ -210,6 +211,7 @@ module _ (st : State) (j : JustReady st) (xs ys : List Call) (o : TwoOrders xs y
       record {
         ready = a .ready ∙ sym (b .ready);
         level = a .level ∙ sym (b .level);
+        totals = same-channels (ends st xs) (ends st ys) (a .calm .sane) (b .calm .sane) (λ n. both-ways n .same-left);
         channels = λ n. both-ways n .same-left;
         records-a = a .calm .blank;
         records-b = b .calm .blank;

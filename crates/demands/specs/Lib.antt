@@ -14,3 +14,4 @@ pub mod Demand3
 pub mod Garbled
 pub mod Strict
 pub mod Counts
+pub mod Totals

@@ -25,10 +25,13 @@ pub record SameEitherWay (st : State) (xs ys : List Call) (n : ℕ) : Type 0 whe
   pub each-once : map handed (toldTo n st xs) ≡ map once (joinAll Off (ownEvents n xs))
 
 -- "At the end each open channel has the same record and the same stored bytes. Only where in the store a channel
--- stands may differ": ready, level, and what is free are the same too. The record is number, class, stage and count
+-- stands may differ": ready, level, and what is free are the same too. The record is number, class, stage and count. And with
+-- the totals: "Demand 3 gains: both are the same after either order"
 pub record SameButPlaces (a b : State) : Type 0 where
   pub ready : a .table .ready ≡ b .table .ready
   pub level : a .table .level ≡ b .table .level
+  -- the open channels and the bytes awaited, of all channels together
+  pub totals : a .table .totals ≡ b .table .totals
   -- each number: not open in both, or open in both with the same record, its count too, and the same part
   pub channels : (n : ℕ) → view n a ≡ view n b
   -- every free record is as Start made it, and so is its part

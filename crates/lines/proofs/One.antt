@@ -12,6 +12,8 @@ use Rattle.lines.proofs.cut_line.Reads as cut-line
 use Rattle.lines.proofs.message_line.Reads as message-line
 use Rattle.lines.proofs.reading_header.Reads as reading-header
 use Rattle.lines.proofs.reading_line.Reads as reading-line
+use Rattle.lines.proofs.totals_header.Reads as totals-header
+use Rattle.lines.proofs.totals_line.Reads as totals-line
 
 pub field-one : (κs : _) (a : _) (r r′ : _) (s s′ : _) → field.Post κs a r s → field.Post κs a r′ s′
     → (r ≡ r′) × (now (s .0) ≡ now (s′ .0))
@@ -44,3 +46,11 @@ reading-header-one κs a r r′ s s′ p q = (same (p .0 .0) (q .0 .0), same (p 
 pub reading-line-one : (κs : _) (a : _) (r r′ : _) (s s′ : _) → reading-line.Post κs a r s → reading-line.Post κs a r′ s′
     → (r ≡ r′) × (now (s .0) ≡ now (s′ .0))
 reading-line-one κs a r r′ s s′ p q = (same (p .0 .0) (q .0 .0), same (p .1) (q .1))
+
+pub totals-header-one : (κs : _) (a : _) (r r′ : _) (s s′ : _) → totals-header.Post κs a r s → totals-header.Post κs a r′ s′
+    → (r ≡ r′) × (now (s .0) ≡ now (s′ .0))
+totals-header-one κs a r r′ s s′ p q = (same (p .0 .0) (q .0 .0), same (p .1) (q .1))
+
+pub totals-line-one : (κs : _) (a : _) (r r′ : _) (s s′ : _) → totals-line.Post κs a r s → totals-line.Post κs a r′ s′
+    → (r ≡ r′) × (now (s .0) ≡ now (s′ .0))
+totals-line-one κs a r r′ s s′ p q = (same (p .0 .0) (q .0 .0), same (p .1) (q .1))

@@ -71,6 +71,15 @@ verdictField n = cond (eqb n 0) (111 ∷ 107 ∷ 10 ∷ []) (wordField refused +
 unfoldable pub readingLineOf : ℕ → ℕ → List ℕ
 readingLineOf place n = field place SPACE ++ verdictField n
 
+-- "pdu channels awaited"
+unfoldable pub totalsHeader : List ℕ
+totalsHeader =
+    112 ∷ 100 ∷ 117 ∷ 32 ∷ 99 ∷ 104 ∷ 97 ∷ 110 ∷ 110 ∷ 101 ∷ 108 ∷ 115 ∷ 32 ∷ 97 ∷ 119 ∷ 97 ∷ 105 ∷ 116 ∷ 101 ∷ 100 ∷ 10 ∷ []
+
+-- the line of the totals after a PDU: its place, the open channels, and the bytes still to come
+unfoldable pub totalsLineOf : ℕ → ℕ → ℕ → List ℕ
+totalsLineOf place channels awaited = (field place SPACE ++ field channels SPACE) ++ field awaited LF
+
 -- the line of a message handed up: the place of the record that brought it, its channel, and its bytes, of which a
 -- message has at most 4,096
 unfoldable pub messageLineOf : ℕ → ℕ → List ℕ → List ℕ

@@ -2,7 +2,8 @@
 //
 // `header` lays the walker's first line, `line` the line of one PDU from its place, its answer and its reply's length,
 // `cut_line` the line of a last record that is cut short; `message_line` lays the line of a message handed up;
-// `reading_header` and `reading_line` lay the lines of PDUs that are only read. Each lays its bytes at the front of a
+// `reading_header` and `reading_line` lay the lines of PDUs that are only read, `totals_header` and `totals_line` those of
+// the connection's totals. Each lays its bytes at the front of a
 // buffer and answers how many there are; `field` and `text`, of which lines are made, lay theirs from a place on. Bytes
 // of the buffer behind them stay. A buffer that is too short gets as much as it has room for.
 use channel::Answer;
@@ -18,6 +19,7 @@ ghost use Rattle.lines.specs.Decimal.{FIELD-MAX, field};
 ghost use Rattle.lines.specs.Hex.{hexDigit, hexByte, hexOf, bytesField};
 ghost use Rattle.lines.specs.Lines.{WORD-MAX, LINE-MAX, headerLine, wordField, channelField, lineOf, cutLineOf};
 ghost use Rattle.lines.specs.Lines.{messageLineOf, MESSAGE-LINE-MAX, readingHeader, verdictField, readingLineOf};
+ghost use Rattle.lines.specs.Lines.{totalsHeader, totalsLineOf};
 
 // A number's field has at most twenty digits and the byte that ends it.
 const FIELD_MAX: usize = 21;
@@ -217,4 +219,22 @@ pub fn reading_line(out: &mut [u8], place: u64, refusal: u8) -> usize
 {
     let placed = field(out, 0, place, b' ');
     placed + verdict(out, placed, refusal)
+}
+
+// The first line of the totals.
+pub fn totals_header(out: &mut [u8]) -> usize
+    ensures { λ r. ⌜ (r ≡ length totalsHeader) × (r ≤ LINE-MAX) ⌝ }
+    ensures { λ _. ⌜ now (out .exit) ≡ laid (now (out .entry)) 0 totalsHeader ⌝ }
+{
+    text(out, 0, b"pdu channels awaited\n")
+}
+
+// The line of the totals after a PDU: its place, the open channels, and the bytes still to come.
+pub fn totals_line(out: &mut [u8], place: u64, channels: u32, awaited: u32) -> usize
+    ensures { λ r. ⌜ (r ≡ length (totalsLineOf place channels awaited)) × (r ≤ LINE-MAX) ⌝ }
+    ensures { λ _. ⌜ now (out .exit) ≡ laid (now (out .entry)) 0 (totalsLineOf place channels awaited) ⌝ }
+{
+    let placed = field(out, 0, place, b' ');
+    let counted = placed + field(out, placed, channels as u64, b' ');
+    counted + field(out, counted, awaited as u64, b'\n')
 }

@@ -10,7 +10,7 @@ use Rattle.paper.specs.Sizes.{MESSAGE-MAX}
 use Rattle.lines.specs.Lines.{MESSAGE-LINE-MAX}
 use Rattle.walking.specs.declared.Job.{Job}
 use Rattle.walking.specs.declared.Job.the-variants.{Client, Strict}
-use Rattle.walking.specs.declared.Told.the-variants.{Lines, Messages, Moves}
+use Rattle.walking.specs.declared.Told.the-variants.{Lines, Messages, Moves, Totals}
 use Rattle.walking.specs.Walking.{roomTold, roomFor}
 
 pub record Sized (store₀ buffer₀ out₀ store buffer out : List ℕ) (had laid : ℕ) : Type 0 where
@@ -31,4 +31,5 @@ unfolding roomFor roomTold MESSAGE-LINE-MAX MESSAGE-MAX
 any-text-fits (Client Lines) = omega arith
 any-text-fits (Client Messages) = omega arith
 any-text-fits (Client Moves) = omega arith
+any-text-fits (Client Totals) = omega arith
 any-text-fits (Strict fromServer) = omega arith

@@ -15,6 +15,7 @@ use Rattle.lists.proofs.Places.{place-passes, place-none, place-all}
 use Rattle.channel.specs.declared.Record.{Record}
 use Rattle.channel.specs.Channel.{blank}
 use Rattle.table.proofs.Twice.{holds-says}
+use Rattle.table.proofs.Recount.{changed-same}
 use Rattle.table.specs.declared.Table.{Table}
 use Rattle.table.specs.declared.Found.{Found}
 use Rattle.table.specs.Table.{
@@ -24,6 +25,7 @@ use Rattle.table.specs.Table.{
   freePlace,
   openPlace,
   recordAt,
+  placed,
   withRecord,
   foundIn,
   openIn,
@@ -33,9 +35,13 @@ use Rattle.table.specs.Table.{
 
 -- ---- after a record is set
 
+pub placed-past : (t : Table) (k : ℕ) (r : Record) → length (t .records) ≤ k → placed t k r ≡ t
+unfolding placed
+placed-past t k r h = rw (set-out (t .records) k r h)
+
 pub with-past : (t : Table) (k : ℕ) (r : Record) → length (t .records) ≤ k → withRecord t k r ≡ t
 unfolding withRecord
-with-past t k r h = rw (set-out (t .records) k r h)
+with-past t k r h = rw (placed-past t k r h, set-out (t .records) k r h, changed-same (t .totals) (recordAt t k))
 
 pub at-same : (t : Table) (k : ℕ) (r : Record) → k < length (t .records) → recordAt (withRecord t k r) k ≡ r
 unfolding recordAt withRecord

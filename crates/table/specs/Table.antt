@@ -9,13 +9,15 @@ use Rattle.channel.specs.declared.Record.{Record}
 use Rattle.channel.specs.declared.Change.{Change}
 use Rattle.channel.specs.declared.Change.the-variants.{Stays, Becomes, Frees}
 use Rattle.channel.specs.Channel.{blank}
+use Rattle.table.specs.declared.Totals.{Totals}
 use Rattle.table.specs.declared.Table.{Table}
 use Rattle.table.specs.declared.Found.{Found}
+use Rattle.table.specs.Totals.{changed}
 
 -- "an empty table, not ready, all its numbers 0 and its stages idle"
 unfoldable pub emptyTable : Table
 unfolding PARTS
-emptyTable = record { ready = false; level = 0; records = replicate PARTS blank }
+emptyTable = record { totals = record { channels = 0; awaited = 0 }; ready = false; level = 0; records = replicate PARTS blank }
 
 -- "A number is open while a record holds it, spoiled or not."
 unfoldable pub holds : ℕ → Record → Bool
@@ -49,9 +51,19 @@ foundIn n t = record { place = numberPlace n t; row = recordAt t (numberPlace n 
 unfoldable pub openIn : Table → Found
 openIn t = record { place = openPlace t; row = recordAt t (openPlace t) }
 
--- the table with a record at a place; a place that it doesn't have leaves it as it is
+-- the table with a record at a place, and its totals as they were; a place that it doesn't have leaves it as it is
+unfoldable pub placed : Table → ℕ → Record → Table
+placed t k r = record { totals = t .totals; ready = t .ready; level = t .level; records = set (t .records) k r }
+
+-- the same, and its totals by what then stands at the place
 unfoldable pub withRecord : Table → ℕ → Record → Table
-withRecord t k r = record { ready = t .ready; level = t .level; records = set (t .records) k r }
+withRecord t k r =
+    record {
+      totals = changed (t .totals) (recordAt t k) (recordAt (placed t k r) k);
+      ready = t .ready;
+      level = t .level;
+      records = set (t .records) k r;
+    }
 
 -- where what becomes of the channel with a number is put: its record's place, or the lowest free one's
 unfoldable pub homePlace : ℕ → Table → ℕ
@@ -74,5 +86,18 @@ nextOf Stays = blank
 nextOf (Becomes r) = r
 nextOf Frees = blank
 
-unfoldable pub putBack : Table → Bool → ℕ → ℕ → Change → Table
-putBack t ready level k change = record { ready = ready; level = level; records = withRecord t (siteOf k change) (nextOf change) .records }
+-- the totals, by what becomes of a record
+unfoldable pub totalsAfter : Totals → Record → Change → Totals
+totalsAfter totals row Stays = totals
+totalsAfter totals row (Becomes r) = changed totals row r
+totalsAfter totals row Frees = changed totals row blank
+
+-- the record there before being `row`
+unfoldable pub putBack : Table → Bool → ℕ → ℕ → Record → Change → Table
+putBack t ready level k row change =
+    record {
+      totals = totalsAfter (t .totals) row change;
+      ready = ready;
+      level = level;
+      records = placed t (siteOf k change) (nextOf change) .records;
+    }

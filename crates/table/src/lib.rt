@@ -1,4 +1,4 @@
-// The table: sixteen records by value, with whether the connection is ready and the level in use.
+// The table: sixteen records by value, with two totals over them, whether the connection is ready and the level in use.
 //
 // A table goes in by value and comes back. Every function takes any table, unsound ones too, and any number and place.
 use channel::Change;
@@ -7,14 +7,26 @@ use channel::Stage;
 use paper::MESSAGE_MAX;
 use paper::PARTS;
 ghost use mathlib.Core.Path.{_≡_};
-ghost use mathlib.Core.Bool.{true};
+ghost use mathlib.Core.Bool.{true, cond, _&&_};
+ghost use Prim.Native.Nat.{_-_};
+ghost use lib.Dec.{eqb};
 ghost use lib.ListN.{drop};
 ghost use Rattle.channel.specs.Channel.{blank};
 ghost use Rattle.table.specs.Table.{emptyTable, holds, withRecord, freePlace, foundIn, openIn, homeIn};
-ghost use Rattle.table.specs.Table.{bitOf, siteOf, nextOf, putBack};
-ghost use Rattle.table.specs.Sound.{some, every, noNumberTwice, goodStage, goodRecord, goodLevel, soundTable};
+ghost use Rattle.table.specs.Table.{bitOf, siteOf, nextOf, totalsAfter, putBack};
+ghost use Rattle.table.specs.Totals.{opens, awaits, total, moved, changed};
+ghost use Rattle.table.specs.Sound.{some, every, noNumberTwice, isStaged, goodSeat, goodLevel, soundTable};
+
+// What a host's status lamp shows. In a sound table it is what a recount of the records comes to.
+pub struct Totals {
+    // The open channels.
+    pub channels: u32,
+    // The bytes still to come over all joining channels.
+    pub awaited: u32,
+}
 
 pub struct Table {
+    pub totals: Totals,
     pub ready: bool,
     // 1 or 2 when ready.
     pub level: u8,
@@ -47,6 +59,10 @@ pub fn empty() -> Table
 {
     let record = blank();
     Table {
+        totals: Totals {
+            channels: 0,
+            awaited: 0,
+        },
         ready: false,
         level: 0,
         records: [record; PARTS],
@@ -170,15 +186,83 @@ fn next_record(change: Change) -> Record
     }
 }
 
-// The table ready or not, at a level, with what becomes of the record at a place. Every change of a table goes this way.
+// What an open record adds to the channels.
+fn opens(record: Record) -> u32
+    ensures { λ r. ⌜ r ≡ opens «record» ⌝ }
+{
+    if record.taken {
+        return 1;
+    }
+    0
+}
+
+// What a message of which `held` bytes of `wanted` are there adds to the bytes awaited, if its record is open.
+fn left(taken: bool, wanted: u16, held: u16) -> u32
+    ensures { λ r. ⌜ r ≡ cond taken (wanted - held) 0 ⌝ }
+{
+    if !taken {
+        return 0;
+    }
+    if wanted <= held {
+        return 0;
+    }
+    (wanted - held) as u32
+}
+
+// What a record adds to the bytes awaited.
+fn awaits(record: Record) -> u32
+    ensures { λ r. ⌜ r ≡ awaits «record» ⌝ }
+{
+    let taken = record.taken;
+    let stage = record.stage;
+    match stage {
+        Stage::Idle => 0,
+        Stage::Joining { wanted, held } => left(taken, wanted, held),
+        Stage::Spoiled => 0,
+    }
+}
+
+// A total, after a record that added `old` to it adds `new`. In a sound table neither end of a u32 is met.
+fn moved(total: u32, old: u32, new: u32) -> u32
+    ensures { λ r. ⌜ r ≡ moved total old new ⌝ }
+{
+    if new == old {
+        return total;
+    }
+    ((total as u64 + new as u64 + 4294967296 - old as u64) % 4294967296) as u32
+}
+
+// The totals, after one record takes the place of another.
+fn changed(totals: Totals, old: Record, new: Record) -> Totals
+    ensures { λ r. ⌜ r ≡ changed totals old new ⌝ }
+{
+    Totals {
+        channels: moved(totals.channels, opens(old), opens(new)),
+        awaited: moved(totals.awaited, awaits(old), awaits(new)),
+    }
+}
+
+// The totals, after what becomes of a record.
+fn totals_after(totals: Totals, row: Record, change: Change) -> Totals
+    ensures { λ r. ⌜ r ≡ totalsAfter totals row change ⌝ }
+{
+    match change {
+        Change::Stays => totals,
+        Change::Becomes(record) => changed(totals, row, record),
+        Change::Frees => changed(totals, row, blank()),
+    }
+}
+
+// The table ready or not, at a level, with what becomes of the record at a place, which is `row` as `find` gave both. Every
+// change of a table goes this way, and it moves the totals by what the change makes.
 //
 // The loop asks of each record in turn whether it is the one, and asks the bits of one number: its last bit, and then the
 // number is halved. It doesn't compare the record's index with the place, since the compiler makes of such a comparison,
 // as of `next.records[k]`, one store at an address that it works out: for that it writes the whole table to memory and reads
 // it back, some 400 instructions. With the bits each record is set where it stands, by sixteen tests. The loop stands here
-// and not in a function of its own for the same reason.
-pub fn put(table: Table, ready: bool, level: u8, k: usize, change: Change) -> Table
-    ensures { λ r. ⌜ r ≡ putBack table ready level k change ⌝ }
+// and not in a function of its own for the same reason, and for the same reason `row` is handed in and not read.
+pub fn put(table: Table, ready: bool, level: u8, k: usize, row: Record, change: Change) -> Table
+    ensures { λ r. ⌜ r ≡ putBack table ready level k row change ⌝ }
 {
     let record = next_record(change);
     let mut rest = bit(site(k, change));
@@ -193,6 +277,8 @@ pub fn put(table: Table, ready: bool, level: u8, k: usize, change: Change) -> Ta
         rest = rest / 2;
         i += 1;
     }
+    let before = table.totals;
+    next.totals = totals_after(before, row, change);
     next
 }
 
@@ -214,11 +300,13 @@ fn held_from(table: Table, k: usize, number: u32) -> bool
 // The marks that the open records' numbers fall on: a number's mark is its remainder by this.
 const MARKS: usize = 64;
 
-// Whether no two open records share a mark, in one pass from the last to the first. Then no number stands in two.
+// Whether no two open records share a mark, and they are as many as the total says, in one pass from the last to the
+// first. Then no number stands in two.
 fn marks_apart(table: Table) -> bool
-    ensures { λ r. ⌜ (r ≡ true → noNumberTwice (table .records) ≡ true) ⌝ }
+    ensures { λ r. ⌜ (r ≡ true → (noNumberTwice (table .records) ≡ true) × (total opens (table .records) ≡ table .totals .channels)) ⌝ }
 {
     let mut marks = [false; MARKS];
+    let mut channels = 0;
     let mut i = PARTS;
     while 0 < i {
         i -= 1;
@@ -229,9 +317,10 @@ fn marks_apart(table: Table) -> bool
                 return false;
             }
             marks[mark] = true;
+            channels += 1;
         }
     }
-    true
+    channels == table.totals.channels
 }
 
 // Whether no number stands in two open records, each compared with those behind it.
@@ -249,55 +338,82 @@ fn pairs_apart(table: Table) -> bool
     true
 }
 
-// Whether no number stands in two open records. Numbers that the server counts up differ in their marks, and then no
-// pair is compared.
-fn no_number_twice(table: Table) -> bool
-    ensures { λ r. ⌜ r ≡ noNumberTwice (table .records) ⌝ }
+// How many records are open.
+fn count(table: Table) -> u32
+    ensures { λ r. ⌜ r ≡ total opens (table .records) ⌝ }
+{
+    let mut channels = 0;
+    let mut i = 0;
+    while i < PARTS {
+        let record = table.records[i];
+        channels += opens(record);
+        i += 1;
+    }
+    channels
+}
+
+// Whether no number stands in two open records, and they are as many as the total says. Numbers that the server counts up
+// differ in their marks, and then no pair is compared.
+fn good_numbers(table: Table) -> bool
+    ensures { λ r. ⌜ r ≡ (noNumberTwice (table .records) && eqb (table .totals .channels) (total opens (table .records))) ⌝ }
 {
     if marks_apart(table) {
         return true;
     }
-    pairs_apart(table)
-}
-
-// Whether the stage can stand in a sound table: a message being joined is not whole yet, and fits a part.
-fn good_stage(stage: Stage) -> bool
-    ensures { λ r. ⌜ r ≡ goodStage stage ⌝ }
-{
-    match stage {
-        Stage::Idle => true,
-        Stage::Joining { wanted, held } => held < wanted && wanted as usize <= MESSAGE_MAX,
-        Stage::Spoiled => true,
-    }
-}
-
-// Whether the record can stand in a sound table: its class, its stage, and that it is not open when not ready.
-fn good_record(ready: bool, record: Record) -> bool
-    ensures { λ r. ⌜ r ≡ goodRecord ready «record» ⌝ }
-{
-    if 3 < record.class {
+    if !pairs_apart(table) {
         return false;
     }
-    let stage = record.stage;
-    if !good_stage(stage) {
-        return false;
-    }
-    ready || !record.taken
+    table.totals.channels == count(table)
 }
 
-// Whether every record can stand in a sound table.
-fn good_records(table: Table) -> bool
-    ensures { λ r. ⌜ r ≡ every (goodRecord (table .ready)) (table .records) ⌝ }
+// Whether each record has a class, and none is open when not ready.
+fn good_seats(table: Table) -> bool
+    ensures { λ r. ⌜ r ≡ every (goodSeat (table .ready)) (table .records) ⌝ }
 {
     let mut i = 0;
     while i < PARTS {
         let record = table.records[i];
-        if !good_record(table.ready, record) {
+        if 3 < record.class {
             return false;
+        }
+        if record.taken {
+            if !table.ready {
+                return false;
+            }
         }
         i += 1;
     }
     true
+}
+
+// Whether each record's stage can stand in a sound table, a message being joined is not whole yet and fits a part, and
+// as many bytes are still to come over the open ones as the total says.
+fn good_stages(table: Table) -> bool
+    ensures { λ r. ⌜ r ≡ (every isStaged (table .records) && eqb (table .totals .awaited) (total awaits (table .records))) ⌝ }
+{
+    let mut awaited = 0;
+    let mut i = 0;
+    while i < PARTS {
+        let record = table.records[i];
+        let stage = record.stage;
+        match stage {
+            Stage::Idle => {}
+            Stage::Joining { wanted, held } => {
+                if wanted <= held {
+                    return false;
+                }
+                if MESSAGE_MAX < wanted as usize {
+                    return false;
+                }
+                if record.taken {
+                    awaited += (wanted - held) as u32;
+                }
+            }
+            Stage::Spoiled => {}
+        }
+        i += 1;
+    }
+    table.totals.awaited == awaited
 }
 
 // Whether the level is 1 or 2, when ready.
@@ -310,15 +426,18 @@ fn good_level(ready: bool, level: u8) -> bool
     level == 1 || level == 2
 }
 
-// Whether the table is sound. The manager asks at every call, so each record is looked at twice and no more, unless two
-// numbers share a mark.
+// Whether the table is sound. The manager asks at every call, so each record is looked at three times and no more, unless
+// two numbers share a mark. The passes are short enough for the compiler to write each out, record by record.
 pub fn sound(table: Table) -> bool
     ensures { λ r. ⌜ r ≡ soundTable table ⌝ }
 {
-    if !no_number_twice(table) {
+    if !good_numbers(table) {
         return false;
     }
-    if !good_records(table) {
+    if !good_seats(table) {
+        return false;
+    }
+    if !good_stages(table) {
         return false;
     }
     good_level(table.ready, table.level)

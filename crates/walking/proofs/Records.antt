@@ -10,7 +10,7 @@ use lib.Dec.{eqb}
 use lib.ListN.{length, take, drop, getD, length-drop, length-take, drop-of-length-le}
 use lib.Seq.{take-take, take-all}
 use Rattle.paper.specs.Sizes.{PART, PARTS}
-use Rattle.lists.proofs.Cases.{choice, lt-or-le, true-not-false}
+use Rattle.lists.proofs.Cases.{choice, lt-or-le, true-not-false, and-false}
 use Rattle.lists.proofs.Places.{place-le}
 use Rattle.lists.proofs.Laid.{take-least}
 use mathlib.Core.Logic.{⊎-elim}
@@ -21,8 +21,7 @@ use Rattle.table.specs.declared.Table.{Table}
 use Rattle.table.specs.Table.{holds, numberPlace}
 use Rattle.client.specs.Client.{placeFor, received, locallyClosed, guarded, Whole, wholeOf}
 use Rattle.walking.specs.declared.Told.{Told}
-use Rattle.walking.specs.declared.Told.the-variants.{Lines, Messages, Moves}
-use Rattle.walking.specs.Walking.{Walk, isClose, answered, placeIn}
+use Rattle.walking.specs.Walking.{Walk, hasCloses, isClose, answered, placeIn}
 
 -- no bytes are no local close
 pub none-close : (bytes : List ℕ) → length bytes ≡ 0 → eqb (getD bytes 0 1) 0 ≡ false
@@ -37,10 +36,8 @@ first-byte (b ∷ bytes) h = refl
 -- a local close has its first byte
 pub close-some : (told : Told) (bytes : List ℕ) → isClose told bytes ≡ true → 1 ≤ length bytes
 unfolding isClose
-close-some Lines bytes h = absurd (true-not-false (sym h))
-close-some Messages bytes h = absurd (true-not-false (sym h))
-close-some Moves [] h = absurd (true-not-false (sym h))
-close-some Moves (b ∷ bytes) h = omega arith
+close-some told [] h = absurd (true-not-false (sym h ∙ and-false (hasCloses told)))
+close-some told (b ∷ bytes) h = omega arith
 
 -- the place beside an answer is a record's, or the number of records
 pub at-most : (t : Table) (concern : Concern) → length (t .records) ≡ PARTS → placeFor t concern ≤ PARTS

@@ -17,7 +17,7 @@ use Rattle.records.specs.Records.{pdus}
 use Rattle.records.specs.Walks.{Program, Turned, stay, walkOver, dueFor, walked, ending, ended, turned}
 use Rattle.walking.specs.declared.Job.{Job}
 use Rattle.walking.specs.declared.Job.the-variants.{Client, Strict}
-use Rattle.walking.specs.declared.Told.the-variants.{Lines, Messages, Moves}
+use Rattle.walking.specs.declared.Told.the-variants.{Lines, Messages, Moves, Totals}
 use Rattle.walking.specs.declared.Kept.{Kept}
 use Rattle.walking.specs.declared.Walked.{Walked}
 use Rattle.walking.specs.declared.Turned.{Turned as Turn}
@@ -91,4 +91,5 @@ unfolding roomFor roomTold MESSAGE-LINE-MAX MESSAGE-MAX
 line-fits (Client Lines) = omega arith
 line-fits (Client Messages) = omega arith
 line-fits (Client Moves) = omega arith
+line-fits (Client Totals) = omega arith
 line-fits (Strict fromServer) = omega arith

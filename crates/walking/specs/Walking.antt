@@ -1,7 +1,7 @@
 -- Walks over records: each record goes to the client's step, and what is written says what was answered; or it is only
 -- read, strictly, and what is written says whether it was accepted.
 use Prim.Native.Nat.{ℕ, _+_, _-_, _%_, _^_, _≤_}
-use mathlib.Core.Bool.{Bool, false, cond}
+use mathlib.Core.Bool.{Bool, true, false, cond, _&&_}
 use mathlib.Core.List.{List, []}
 use lib.Dec.{eqb}
 use lib.ListN.{length, take, drop, getD}
@@ -20,13 +20,13 @@ use Rattle.store.specs.Parts.{part}
 use Rattle.client.specs.declared.Received.{Received}
 use Rattle.client.specs.Client.{Whole, placeFor, received, locallyClosed}
 use Rattle.lines.specs.Lines.{LINE-MAX, MESSAGE-LINE-MAX, headerLine, lineOf, cutLineOf, messageLineOf}
-use Rattle.lines.specs.Lines.{readingHeader, readingLineOf}
+use Rattle.lines.specs.Lines.{readingHeader, readingLineOf, totalsHeader, totalsLineOf}
 use Rattle.records.specs.declared.Due.the-variants.{Read}
 use Rattle.records.specs.Walks.{Program, output, Went, Turned}
 use Rattle.walking.specs.declared.Job.{Job}
 use Rattle.walking.specs.declared.Job.the-variants.{Client, Strict}
 use Rattle.walking.specs.declared.Told.{Told}
-use Rattle.walking.specs.declared.Told.the-variants.{Lines, Messages, Moves}
+use Rattle.walking.specs.declared.Told.the-variants.{Lines, Messages, Moves, Totals}
 use Rattle.walking.specs.declared.Kept.{Kept}
 use Rattle.walking.specs.declared.Stand.{Stand}
 use Rattle.walking.specs.declared.Stepped.{Stepped}
@@ -59,11 +59,16 @@ nextPlace w = (w .place + 1) % PLACES
 
 -- ---- a record of the client's
 
--- among moves a record whose first byte is 0, which no command has, is a local close
+-- whether local closes stand among the records
+unfoldable pub hasCloses : Told → Bool
+hasCloses Lines = false
+hasCloses Messages = false
+hasCloses Moves = true
+hasCloses Totals = true
+
+-- then a record whose first byte is 0, which no command has, is one
 unfoldable pub isClose : Told → List ℕ → Bool
-isClose Lines bytes = false
-isClose Messages bytes = false
-isClose Moves bytes = eqb (getD bytes 0 1) 0
+isClose told bytes = hasCloses told && eqb (getD bytes 0 1) 0
 
 -- the channel's number stands behind that byte, little-endian
 abbrev pub closeNumber : List ℕ → ℕ
@@ -110,22 +115,26 @@ unfoldable pub textFor : Told → ℕ → Received → List ℕ → List ℕ
 textFor Lines place r store = lineOf place (r .answer) (r .sent)
 textFor Messages place r store = messageText place (r .place) store (r .answer)
 textFor Moves place r store = lineOf place (r .answer) (r .sent)
+textFor Totals place r store = totalsLineOf place (r .table .totals .channels) (r .table .totals .awaited)
 
 unfoldable pub firstTold : Told → List ℕ
 firstTold Lines = headerLine
 firstTold Messages = []
 firstTold Moves = headerLine
+firstTold Totals = totalsHeader
 
 unfoldable pub cutTold : Told → ℕ → List ℕ
 cutTold Lines place = cutLineOf place
 cutTold Messages place = []
 cutTold Moves place = cutLineOf place
+cutTold Totals place = cutLineOf place
 
 -- the most bytes of a step's text
 unfoldable pub roomTold : Told → ℕ
 roomTold Lines = LINE-MAX
 roomTold Messages = MESSAGE-LINE-MAX
 roomTold Moves = LINE-MAX
+roomTold Totals = LINE-MAX
 
 -- ---- by job
 

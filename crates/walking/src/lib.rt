@@ -25,7 +25,7 @@ ghost use Rattle.records.specs.Records.{pdus};
 ghost use Rattle.records.specs.Walks.{walkOver, turned, walked, ended};
 ghost use Rattle.client.specs.Client.{storeStarted, Whole};
 ghost use Rattle.walking.specs.declared.Job.the-variants.{Client, Strict};
-ghost use Rattle.walking.specs.Walking.{walkOf, keptOf, beginning, isClose, answered, afterRecord, placeIn, handedUp};
+ghost use Rattle.walking.specs.Walking.{walkOf, keptOf, beginning, hasCloses, isClose, answered, afterRecord, placeIn, handedUp};
 ghost use Rattle.walking.specs.Walking.{messageText, textFor, firstTold, cutTold, roomTold, firstFor, cutFor};
 ghost use Rattle.walking.specs.Walking.{roomFor, program, Steps, Walks, Turns};
 
@@ -37,6 +37,8 @@ pub enum Told {
     Messages,
     // A line for each move: a PDU, or a local close.
     Moves,
+    // A line for each move, with the two totals after it.
+    Totals,
 }
 
 // What a walk is for.
@@ -88,6 +90,7 @@ fn room_told(told: Told) -> usize
         Told::Lines => LINE_MAX,
         Told::Messages => MESSAGE_LINE_MAX,
         Told::Moves => LINE_MAX,
+        Told::Totals => LINE_MAX,
     }
 }
 
@@ -109,6 +112,7 @@ fn first_told(told: Told, out: &mut [u8]) -> usize
         Told::Lines => lines::header(out),
         Told::Messages => 0,
         Told::Moves => lines::header(out),
+        Told::Totals => lines::totals_header(out),
     }
 }
 
@@ -131,6 +135,7 @@ fn cut_told(told: Told, out: &mut [u8], place: u64) -> usize
         Told::Lines => lines::cut_line(out, place),
         Told::Messages => 0,
         Told::Moves => lines::cut_line(out, place),
+        Told::Totals => lines::cut_line(out, place),
     }
 }
 
@@ -164,20 +169,29 @@ pub fn begin(job: Job, store: &mut [u8], out: &mut [u8]) -> Turned
     }
 }
 
-// Whether the record is a local close.
-fn is_close(told: Told, bytes: &[u8]) -> bool
-    ensures { λ r. ⌜ r ≡ isClose told (now (bytes .entry)) ⌝ }
+// Whether local closes stand among the records.
+fn has_closes(told: Told) -> bool
+    ensures { λ r. ⌜ r ≡ hasCloses told ⌝ }
 {
     match told {
         Told::Lines => false,
         Told::Messages => false,
-        Told::Moves => {
-            if bytes.len() == 0 {
-                return false;
-            }
-            bytes[0] == 0
-        }
+        Told::Moves => true,
+        Told::Totals => true,
     }
+}
+
+// Whether the record is a local close.
+fn is_close(told: Told, bytes: &[u8]) -> bool
+    ensures { λ r. ⌜ r ≡ isClose told (now (bytes .entry)) ⌝ }
+{
+    if !has_closes(told) {
+        return false;
+    }
+    if bytes.len() == 0 {
+        return false;
+    }
+    bytes[0] == 0
 }
 
 // The client's step for a record.
@@ -239,10 +253,12 @@ fn text_for(told: Told, out: &mut [u8], place: u64, received: Received, store: &
     ensures { λ _. ⌜ now (out .exit) ≡ laid (now (out .entry)) 0 (textFor told place received (now (store .entry))) ⌝ }
 {
     let answer = received.answer;
+    let totals = received.table.totals;
     match told {
         Told::Lines => lines::line(out, place, answer, received.sent),
         Told::Messages => message_text(out, place, received.place, store, answer),
         Told::Moves => lines::line(out, place, answer, received.sent),
+        Told::Totals => lines::totals_line(out, place, totals.channels, totals.awaited),
     }
 }
 

@@ -150,7 +150,12 @@ turn-requires : tie.Need-turn-requires Inv-loop μ-loop
 turn-requires c κs = search needs
 
 loop-less : tie.Need-loop-less Inv-loop μ-loop
-loop-less c = omega arith
+loop-less c =
+    let turned = c .before .before .before .before .before .before in
+    let told = turned .before .before .before .before in
+    let lent = told .before .before .before .before .before in
+    let asked = lent .before .before .before .before in
+    omega (arith, asked .before .before .before .loop-test .taken)
 
 loop-again : tie.Need-loop-again Inv-loop μ-loop
 loop-again c =

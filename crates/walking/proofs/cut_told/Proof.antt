@@ -22,6 +22,12 @@ enum-told-3 c = search needs
 cut-line-requires-2 : tie.Need-cut-line-requires-2
 cut-line-requires-2 c κs = search needs
 
+enum-told-4 : tie.Need-enum-told-4
+enum-told-4 c = search needs
+
+cut-line-requires-3 : tie.Need-cut-line-requires-3
+cut-line-requires-3 c κs = search needs
+
 same-length : tie.Need-same-length
 same-length c = search needs
 
@@ -40,6 +46,13 @@ returns-3 : tie.Need-returns-3
 unfolding cutTold
 returns-3 c = rw (c .before .before .before .before .enum-told3 .given .1) (c .before .before .cut-line2 .ensures)
 
+same-length-3 : tie.Need-same-length-3
+same-length-3 c = search needs
+
+returns-4 : tie.Need-returns-4
+unfolding cutTold
+returns-4 c = rw (c .before .before .before .before .enum-told4 .given .1) (c .before .before .cut-line3 .ensures)
+
 pub cut-told-spec : {M : Type 1} → statement M
 cut-told-spec =
     tie.close
@@ -49,8 +62,12 @@ cut-told-spec =
     enum-told-2
     enum-told-3
     cut-line-requires-2
+    enum-told-4
+    cut-line-requires-3
     same-length
     returns
     returns-2
     same-length-2
-    returns-3)
+    returns-3
+    same-length-3
+    returns-4)

@@ -22,6 +22,12 @@ enum-told-3 c = search needs
 header-requires-2 : tie.Need-header-requires-2
 header-requires-2 c κs = search needs
 
+enum-told-4 : tie.Need-enum-told-4
+enum-told-4 c = search needs
+
+totals-header-requires : tie.Need-totals-header-requires
+totals-header-requires c κs = search needs
+
 same-length : tie.Need-same-length
 same-length c = search needs
 
@@ -40,6 +46,13 @@ returns-3 : tie.Need-returns-3
 unfolding firstTold
 returns-3 c = rw (c .before .before .before .before .enum-told3 .given .1) (c .before .before .header2 .ensures)
 
+same-length-3 : tie.Need-same-length-3
+same-length-3 c = search needs
+
+returns-4 : tie.Need-returns-4
+unfolding firstTold
+returns-4 c = rw (c .before .before .before .before .enum-told4 .given .1) (c .before .before .totals-header .ensures)
+
 pub first-told-spec : {M : Type 1} → statement M
 first-told-spec =
     tie.close
@@ -49,8 +62,12 @@ first-told-spec =
     enum-told-2
     enum-told-3
     header-requires-2
+    enum-told-4
+    totals-header-requires
     same-length
     returns
     returns-2
     same-length-2
-    returns-3)
+    returns-3
+    same-length-3
+    returns-4)

@@ -9,6 +9,11 @@ use borrow.Author.Needs.{needs}
 use Rattle.walking.proofs.text_for.Statement.{statement}
 use Rattle.walking.proofs.text_for.Tie as tie
 
+-- the table has its records
+sixteen : (c : tie.Start) → length (c .args .received .table .records) ≡ PARTS
+unfolding PARTS
+sixteen c = search (needs, length-mapped, c .good .1 .1 .1 .0)
+
 enum-told : tie.Need-enum-told
 enum-told c = search needs
 
@@ -19,17 +24,22 @@ enum-told-2 : tie.Need-enum-told-2
 enum-told-2 c = search needs
 
 message-text-requires : tie.Need-message-text-requires
-unfolding placeIn PARTS
+unfolding placeIn
 message-text-requires c κs =
-    let start = c .before .before .before .before .before in
-    let rows : length (start .args .received .table .records) ≡ PARTS = search (needs, length-mapped, start .good) in
-    rw (start .pre) (at-most _ _ rows)
+    let start = c .before .before .before .before .before .before in
+    rw (start .pre) (at-most _ _ (sixteen start))
 
 enum-told-3 : tie.Need-enum-told-3
 enum-told-3 c = search needs
 
 line-requires-2 : tie.Need-line-requires-2
 line-requires-2 c κs = search needs
+
+enum-told-4 : tie.Need-enum-told-4
+enum-told-4 c = search needs
+
+totals-line-requires : tie.Need-totals-line-requires
+totals-line-requires c κs = search needs
 
 same-length : tie.Need-same-length
 same-length c = search needs
@@ -52,6 +62,13 @@ returns-3 : tie.Need-returns-3
 unfolding textFor roomTold
 returns-3 c = rw (c .before .before .before .before .enum-told3 .given .1) (c .before .before .line2 .ensures)
 
+same-length-4 : tie.Need-same-length-4
+same-length-4 c = search needs
+
+returns-4 : tie.Need-returns-4
+unfolding textFor roomTold
+returns-4 c = rw (c .before .before .before .before .enum-told4 .given .1) (c .before .before .totals-line .ensures)
+
 pub text-for-spec : {M : Type 1} → statement M
 text-for-spec =
     tie.close
@@ -62,9 +79,13 @@ text-for-spec =
     message-text-requires
     enum-told-3
     line-requires-2
+    enum-told-4
+    totals-line-requires
     same-length
     returns
     same-length-2
     returns-2
     same-length-3
-    returns-3)
+    returns-3
+    same-length-4
+    returns-4)
