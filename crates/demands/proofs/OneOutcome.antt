@@ -15,7 +15,7 @@ pub use Rattle.table.proofs.One.{blank-one as table-blank-one, empty-one as tab
 pub use Rattle.store.proofs.One.{put-block-one as store-put-block-one, clear-part-one as store-clear-part-one}
 pub use Rattle.deciding.proofs.One.{decide-one as deciding-decide-one}
 pub use Rattle.connection.proofs.One.{keep-one as connection-keep-one, place-after-one as connection-place-after-one}
-pub use Rattle.client.proofs.One.{start-one as client-start-one, heard-one as client-heard-one, closing-one as client-closing-one, step-one as client-step-one, receive-one as client-receive-one, local-close-one as client-local-close-one}
-pub use Rattle.lines.proofs.One.{field-one as lines-field-one, text-one as lines-text-one, header-one as lines-header-one, line-one as lines-line-one, cut-line-one as lines-cut-line-one, message-line-one as lines-message-line-one, reading-header-one as lines-reading-header-one, reading-line-one as lines-reading-line-one}
+pub use Rattle.client.proofs.One.{start-one as client-start-one, heard-one as client-heard-one, closing-one as client-closing-one, step-one as client-step-one, receive-one as client-receive-one, local-close-one as client-local-close-one, totals-one as client-totals-one}
+pub use Rattle.lines.proofs.One.{field-one as lines-field-one, text-one as lines-text-one, header-one as lines-header-one, line-one as lines-line-one, cut-line-one as lines-cut-line-one, message-line-one as lines-message-line-one, reading-header-one as lines-reading-header-one, reading-line-one as lines-reading-line-one, totals-header-one as lines-totals-header-one, totals-line-one as lines-totals-line-one}
 pub use Rattle.records.proofs.One.{whole-one as records-whole-one, due-for-one as records-due-for-one}
 pub use Rattle.walking.proofs.One.{begin-one as walking-begin-one, turn-one as walking-turn-one}
