@@ -3,14 +3,13 @@
 -- Assumes nothing.
 use mathlib.Core.Path.{_≡_, refl, sym, ap, _∙_}
 use mathlib.Core.Bool.{Bool, true, false}
-use mathlib.Core.List.{List, [], _∷_, map}
+use mathlib.Core.List.{List, [], _∷_}
 use Rattle.connection.specs.States.{State}
 use Rattle.client.specs.Events.{Event}
-use Rattle.client.specs.Client.{stepped}
 use Rattle.demands.specs.Trace.{final, seen}
 use Rattle.demands.specs.Runs.{Call, Told, eventIn, eventsOf, eventMeetsFull}
 use Rattle.demands.specs.Joining.{flag, flags}
-use Rattle.demands.specs.Managers.{Manager, JustStarted, first-start, new-start, everyTold, Sight, atStart, sightNext, sightTold, paperStart, shouldTell, Roomy, Demand2Of}
+use Rattle.demands.specs.Managers.{JustStarted, first-start, new-start, everyTold, Sight, atStart, sightNext, sightTold, paperStart, paperNext, shouldTell, Roomy, Demand2Of}
 use Rattle.demands.specs.Useless.{Beside, fresh, besideNext, besideTold, managerBy, right, With, warpNext, warpTold}
 
 -- ---- runs over events and flags
@@ -25,21 +24,20 @@ finalBy next s (e ∷ es) fs = finalBy next (next (flag fs) s e) es (flags fs)
 
 -- the flags that the paper's steps give
 abbrev pub fullFrom : State → List Event → List Bool
-fullFrom p [] = []
-fullFrom p (e ∷ es) = eventMeetsFull p e ∷ fullFrom (stepped p e .state) es
+fullFrom p es = seen paperNext (λ e. true) eventMeetsFull p es
 
 -- where no table is full they are none
 pub roomy-run :
     {S A : Type 0} (next : Bool → S → Event → S) (tells : Bool → S → Event → A) (p : State) (s : S) (es : List Event) → Roomy p es
     → runBy next tells s es (fullFrom p es) ≡ runBy next tells s es []
 roomy-run next tells p s [] f = refl
-roomy-run {A = A} next tells p s (e ∷ es) f = rw (f .0) (ap (λ (r : List A). tells false s e ∷ r) (roomy-run next tells (stepped p e .state) (next false s e) es (f .1)))
+roomy-run {A = A} next tells p s (e ∷ es) f = rw (f .0) (ap (λ (r : List A). tells false s e ∷ r) (roomy-run next tells (paperNext p e) (next false s e) es (f .1)))
 
 -- what should be told
 pub should-by : (p : State) (s : Sight) (es : List Event) → shouldTell p s es ≡ runBy sightNext sightTold s es (fullFrom p es)
 unfolding shouldTell
 should-by p s [] = refl
-should-by p s (e ∷ es) = ap (λ (r : List Told). sightTold (eventMeetsFull p e) s e ∷ r) (should-by (stepped p e .state) (sightNext (eventMeetsFull p e) s e) es)
+should-by p s (e ∷ es) = ap (λ (r : List Told). sightTold (eventMeetsFull p e) s e ∷ r) (should-by (paperNext p e) (sightNext (eventMeetsFull p e) s e) es)
 
 -- ---- a manager made so, and where it comes to
 

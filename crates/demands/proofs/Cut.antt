@@ -17,7 +17,7 @@ use Rattle.lists.specs.Bytes.{laid}
 use Rattle.lists.proofs.Cases.{lt-or-le, true-not-false}
 use Rattle.lists.proofs.Laid.{laid-eq, length-laid}
 use Rattle.numbers.specs.Numbers.{NUMBERS}
-use Rattle.reading.specs.Grammar.{data-first, data-block, values}
+use Rattle.reading.specs.Grammar.{data-first, data-block}
 use Rattle.laying.proofs.Encoded.{data-encoded, data-first-encoded}
 use Rattle.channel.specs.declared.Record.{Record}
 use Rattle.channel.specs.declared.Stage.{Stage}
@@ -44,7 +44,7 @@ use Rattle.steps.specs.States.{FineEvent}
 use Rattle.steps.proofs.Channels.{step-own, step-other, step-steady}
 use Rattle.steps.proofs.Calm.{steady-sane}
 use Rattle.steps.proofs.Widths.{eventOfValue, encoded-event}
-use Rattle.demands.specs.Trace.{consIf, seen, keep}
+use Rattle.demands.specs.Trace.{seen}
 use Rattle.demands.specs.Runs.{Call, after, told, Told, toldTo, ends, eventIn, isEventOf, ownEvents, firstOf}
 use Rattle.demands.specs.Cut.{Cut, cutOf, Cuts, last-one, one-more, CutByUs, CutFromC, NoneRefused, eventOfPdu, cutEvents, toldFor, HandedUpOnce}
 use Rattle.demands.proofs.Traces.{Input, eventsIn, inputs-events, withFlag, Framed, aloneOuts, aloneFinal, trace-outs, trace-final}

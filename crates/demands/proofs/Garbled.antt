@@ -1,7 +1,7 @@
 -- No half message: a garbled block leaves an open channel dead, and a dead channel is told nothing but refusals until it is closed,
 -- and hands up nothing until it is opened again.
 -- Assumes nothing.
-use mathlib.Core.Path.{_≡_, refl, sym, ap, subst, _∙_}
+use mathlib.Core.Path.{_≡_, refl, ap, _∙_}
 use mathlib.Core.Bool.{Bool, true, false, _&&_}
 use mathlib.Core.List.{List, [], _∷_}
 use Prim.Native.Nat.{ℕ, _≤_, _<_}
@@ -19,9 +19,7 @@ use Rattle.channel.specs.declared.Record.{Record}
 use Rattle.channel.specs.declared.Concern.the-variants.{NoChannel}
 use Rattle.channel.specs.declared.Answer.the-variants.{Refused}
 use Rattle.channel.specs.Channel.{Act, BadCreate, Create, Bring, Garbled, Closing, LocalClose, View, Open, restaged, act}
-use Rattle.table.specs.Sound.{goodStage}
 use Rattle.connection.specs.States.{State, view, roomIn}
-use Rattle.connection.proofs.Frame.{kept-long}
 use Rattle.client.specs.Events.{Event, Unreadable, Capabilities, Of, eventOf}
 use Rattle.client.specs.Client.{stepped}
 use Rattle.steps.specs.States.{ruled}
@@ -31,7 +29,7 @@ use Rattle.demands.specs.Joining.{Join, Off, Dead, joins, wantsRoom, joi
 use Rattle.demands.specs.Telling.{stepSays, saysIf, answered, handsUp, toldIf, toldWith, tellsNone}
 use Rattle.demands.specs.Garbled.{IsGarbled, AllTold, NothingUp, isOpened, NotOpened, asksClose, NeverClosed, NoHalfMessage, NoHalfMessageIsHandedUp}
 use Rattle.demands.proofs.Machine.{steady, toldBy, call-state, running-call, own-told}
-use Rattle.demands.proofs.Joined.{joinOf, SoundView}
+use Rattle.demands.proofs.Joined.{joinOf}
 use Rattle.demands.proofs.Orders.{fresh, runs-on, told-with}
 
 -- ---- a channel that is dead or not open
@@ -118,10 +116,6 @@ module _ (l : ℕ) (st : State) (g : Running l st) (c : Call) (n : ℕ) (why : R
       ap (view n) (call-state st c (g .calm .sane) ∙ ap (λ (x : Event). stepped st x .state) e)
       ∙ garbled-spoils n why st (steady l st g) r b v
 
-  is-sound : SoundView (Open (restaged r Spoiled) b)
-  unfolding restaged goodStage
-  is-sound = (kept-long n st (steady l st g) r b v, refl)
-
   is-dead : joinOf (Open (restaged r Spoiled) b) ≡ Dead
   unfolding restaged
   is-dead = refl
@@ -129,7 +123,7 @@ module _ (l : ℕ) (st : State) (g : Running l st) (c : Call) (n : ℕ) (why : R
   -- so what follows is told as to a dead channel
   told-dead : (xs : List Call) → toldTo n (after st c) xs ≡ toldWith Dead (ownEvents n xs) (fullFlags n (after st c) xs)
   told-dead xs =
-      told-with l (after st c) (running-call l st c g) n xs (subst SoundView (sym spoiled) is-sound)
+      told-with l (after st c) (running-call l st c g) n xs
       ∙ ap (λ (j : Join). toldWith j (ownEvents n xs) (fullFlags n (after st c) xs)) (ap joinOf spoiled ∙ is-dead)
 
   garbled-told : toldBy (ruled n st (Garbled why)) ≡ tellsNone (Refused why NoChannel)

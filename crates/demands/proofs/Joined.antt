@@ -35,10 +35,15 @@ use Rattle.channel.specs.declared.Took.the-variants.{Bars, Spoils, Holds, Finis
 use Rattle.channel.specs.Stages.{added, tookFirst, took}
 use Rattle.channel.specs.Channel.{Act, BadCreate, Create, Bring, Garbled, Closing, LocalClose, View, Shut, Open, Did, openedRecord, restaged, opening, stageAfter, partAfter, answerTo, landed, act}
 use Rattle.table.specs.Sound.{goodStage}
-use Rattle.table.proofs.Soundness.{joining-bounds, joining-good}
+use Rattle.table.proofs.Soundness.{joining-bounds, joining-good, sound-says}
+use Rattle.table.specs.Table.{numberPlace}
+use Rattle.store.proofs.Parts.{there, inside, length-part}
+use Rattle.connection.specs.States.{State, view}
+use Rattle.connection.proofs.Frame.{opened}
+use Rattle.steps.specs.States.{Sane}
 use Rattle.client.specs.Events.{Event, Unreadable, Capabilities, Of, createAct, unread, eventOf}
 use Rattle.demands.specs.Runs.{Entry, receives, closes, firstOf, eventIn}
-use Rattle.demands.specs.Joining.{Join, Off, Waiting, Gathering, Dead, Brings, NoMessage, StillToCome, Complete, Joined, still, gathered, startsWith, goesOn, joins, broughtBy, brought}
+use Rattle.demands.specs.Joining.{Join, Off, Waiting, Gathering, Dead, NoMessage, StillToCome, Complete, Joined, still, gathered, startsWith, goesOn, joins, broughtBy, brought}
 use Rattle.demands.proofs.Machine.{roomFlag, toldBy}
 
 -- ---- where a view's joining stands
@@ -56,6 +61,19 @@ joinOf (Open r part) = joinAt (r .stage) part
 abbrev pub SoundView : View → Type 0
 SoundView Shut = Unit {0}
 SoundView (Open r part) = (length part ≡ PART) × (goodStage (r .stage) ≡ true)
+
+-- so is every view of a state that is in order
+pub sane-view : (st : State) → Sane st → (n : ℕ) → SoundView (view n st)
+sane-view st s n = go (view n st) refl
+  where
+    go : (v : View) → view n st ≡ v → SoundView v
+    go Shut e = tt
+    go (Open r part) e =
+        let o = opened n st r part e in
+        let k = numberPlace n (st .table) in (
+          rw (o .1 .1) at (length-part (st .store) k (inside (st .store) k (there (st .store) k (s .bytes) (o .0)))),
+          rw (o .1 .0) at (sound-says (st .table) (s .sound) .stage k),
+        )
 
 pub record Agrees (d : Did) (j : Joined) : Type 0 where
   pub stands : joinOf (d .view) ≡ j .join

@@ -6,6 +6,7 @@ pub mod Telling
 pub mod Totals
 pub mod Orders
 pub mod Twice
+pub mod Strangers
 pub mod Sanity
 pub mod Cut
 pub mod Garbled
@@ -14,6 +15,7 @@ pub mod Strict
 pub mod Third
 pub mod ByFlags
 pub mod Useless
+pub mod Neighbours
 pub mod Unseen
 pub mod Starred
 pub mod Ready

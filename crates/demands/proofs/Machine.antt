@@ -35,7 +35,7 @@ use Rattle.client.specs.Events.{Event, Unreadable, Capabilities, Of, eventOf, i
 use Rattle.client.specs.Client.{stepped, badCall, Whole, wholeOf, received, locallyClosed}
 use Rattle.connection.proofs.Views.{room-none, room-spare}
 use Rattle.client.proofs.Calls.{passes}
-use Rattle.steps.specs.States.{FineEvent, ruled, Sane, Calm}
+use Rattle.steps.specs.States.{FineEvent, ruled, Sane}
 use Rattle.steps.proofs.Channels.{step-answer, step-reply, step-state, step-own, step-other, step-steady, step-caps}
 use Rattle.steps.proofs.Calm.{sane-steady, steady-sane, calm-step, fine-pdu}
 use Rattle.channel.specs.declared.Concern.the-variants.{NoChannel}

@@ -8,8 +8,10 @@ use Rattle.demands.specs.Garbled.{WhichAreGarbled, AGarbledBlockSpoils, 
 use Rattle.demands.specs.Strict.{OneMeaningOneByteString, StrictBesidePlain, WhatWeWriteIsStrict}
 use Rattle.demands.specs.Counts.{CountIsMessages}
 use Rattle.demands.specs.Totals.{TotalsAreTheRecount}
+use Rattle.demands.specs.Strangers.{StrangersChannels}
 use Rattle.demands.specs.Useless.{UselessManagersHaveThemNot, right}
 use Rattle.demands.specs.Starred.{Starred}
+use Rattle.demands.specs.Examples.{justReady}
 use mathlib.Core.Bool.{true}
 use Rattle.numbers.proofs.Widths as widths
 use Rattle.reading.proofs.Placed.{placed}
@@ -33,6 +35,8 @@ use Rattle.steps.proofs.Widths as values
 use Rattle.steps.proofs.Garbled as blocks
 use Rattle.demands.proofs.Orders as orders
 use Rattle.demands.proofs.Twice as twice
+use Rattle.demands.proofs.Strangers as strangers
+use Rattle.demands.proofs.Neighbours as neighbours
 use Rattle.demands.proofs.Sanity as sanity
 use Rattle.demands.proofs.Cut as cut
 use Rattle.demands.proofs.Ready as ready
@@ -163,7 +167,7 @@ cut-by-us-is-handed-up-once =
 -- call."
 pub a-connection-just-made-ready : AConnectionJustMadeReady
 a-connection-just-made-ready =
-    record { state = ready.readyState; is-ready = ready.just-ready; runs-on = orders.runs-at-its-level }
+    record { state = justReady; is-ready = ready.just-ready; runs-on = orders.runs-at-its-level }
 
 -- "Take two orders of the same received PDUs and local closes that keep each channel's own events in order, and
 -- suppose that neither order meets a full table."
@@ -180,7 +184,25 @@ either-order-is-the-same =
       each-channel = orders.same-either-way;
       at-the-end = orders.same-but-places;
       of-ours = third.ours-demand-3;
-      strangers = orders.strangers;
+    }
+
+-- ======== Beside them: strangers' channels
+
+-- "All other channels' events may differ in number and bytes, and the table may fill. Then that channel's answers, replies,
+-- messages, record and stored bytes are the same in both."
+pub strangers-channels : StrangersChannels
+strangers-channels =
+    record {
+      same-in-both = strangers.same-in-both;
+      only-own = strangers.only-own;
+      all-own = strangers.all-own;
+      only-full = strangers.only-full;
+      all-full = strangers.all-full;
+      still-reached = strangers.still-reached;
+      for-example = neighbours.beside-few-or-many;
+      the-full-table-matters = neighbours.alone-or-behind-sixteen;
+      whatever-the-lists = strangers.strangers;
+      of-ours = third.ours-strangers;
     }
 
 -- ======== Beside them: strict reading
@@ -261,10 +283,15 @@ useless-managers-have-them-not =
       invents-its-count-later = λ count. useless.neither _ (useless.invents-later-not-3 count);
       goes-on-over-a-new-start = useless.neither _ useless.goes-on-not-3;
       forgets-a-garbled-block = useless.neither _ useless.forgets-not-3;
-      right-until-full = (useless.until-full-not-2, unseen.until-full-3);
+      right-until-full = ((useless.until-full-not-2, unseen.until-full-3), neighbours.until-full-not);
+      makes-room-by-dropping-others = ((useless.makes-room-not-2, unseen.makes-room-3), neighbours.makes-room-not);
       never-declines-for-full = (useless.never-declines-not-2, unseen.never-declines-3);
       answers-a-wrong-level = (useless.wrong-level-not-2, unseen.wrong-level-3);
-      without-the-fault = (right-one.right-demand-2, third.two-gives-three right right-one.right-demand-2);
+      without-the-fault = (
+        right-one.right-demand-2,
+        third.two-gives-three right right-one.right-demand-2,
+        third.two-gives-strangers right right-one.right-demand-2,
+      );
     }
 
 -- The starred numbers, one statement over one list: thirteen are starred, and the last, 4,096 and 4,097, has two

@@ -1,25 +1,25 @@
 -- Our manager has demand 2: from every Start on, every call of every run is told what it should be. What is kept along a run is `Seen`:
 -- the state is calm, ready as the events make it, and each channel stands where its joining does.
 -- Assumes nothing.
-use Prim.Native.Nat.{ℕ, _≤_, min}
+use Prim.Native.Nat.{ℕ, _≤_}
 use native.Mathlib.Omega.{arith}
-use mathlib.Core.Path.{_≡_, refl, sym, ap, _∙_, subst}
+use mathlib.Core.Path.{_≡_, refl, sym, ap, _∙_}
 use mathlib.Core.Bool.{Bool, true, false, cond}
 use mathlib.Core.Logic.{_≢_}
-use mathlib.Core.List.{List, [], _∷_, map}
+use mathlib.Core.List.{List, [], _∷_}
 use borrow.Author.Tests.{eqb-true, eqb-false, ne-eqb}
 use lib.Dec.{eqb}
 use lib.ListN.{length, take}
 use Rattle.paper.specs.Sizes.{PARTS, STORE, REPLY-MIN}
 use Rattle.paper.specs.declared.Refusal.{Refusal}
 use Rattle.paper.specs.declared.Refusal.the-variants.{WrongTime}
-use Rattle.lists.specs.Bytes.{laid, zeros}
+use Rattle.lists.specs.Bytes.{zeros}
 use Rattle.lists.specs.Places.{place}
 use Rattle.lists.proofs.Laid.{front}
 use Rattle.laying.proofs.Lengths.{length-caps-response}
 use Rattle.channel.specs.declared.Concern.the-variants.{NoChannel}
-use Rattle.channel.specs.declared.Answer.the-variants.{Ready, Refused}
-use Rattle.channel.specs.Channel.{Act, View, Shut, Did, act}
+use Rattle.channel.specs.declared.Answer.the-variants.{Refused}
+use Rattle.channel.specs.Channel.{Act, Shut, Did, act}
 use Rattle.table.specs.Table.{emptyTable, numberPlace, recordAt, holds}
 use Rattle.connection.specs.States.{State, stateOf, viewAt, view, FineAct}
 use Rattle.client.specs.Events.{Event, Unreadable, Capabilities, Of}
@@ -27,18 +27,18 @@ use Rattle.client.specs.Client.{Stepped, refused, readied, stepped, Whole, whol
 use Rattle.deciding.specs.Deciding.{tooSoon}
 use Rattle.client.proofs.Steps.{too-early, too-late, made-ready}
 use Rattle.connection.proofs.Views.{view-shut}
-use Rattle.steps.specs.States.{FineEvent, ruled, Sane, Calm}
+use Rattle.steps.specs.States.{FineEvent, Sane, Calm}
 use Rattle.steps.proofs.Channels.{step-own, step-other, step-steady}
 use Rattle.steps.proofs.Calm.{calm-start, calm-step, sane-steady}
 use Rattle.demands.specs.Trace.{seen}
-use Rattle.demands.specs.Runs.{Call, Told, gives, after, told, handedUp, eventIn, eventsOf, eventMeetsFull, startedOn, Running}
-use Rattle.demands.specs.Joining.{Join, Off, joinsIf}
+use Rattle.demands.specs.Runs.{Call, gives, after, told, handedUp, eventIn, eventsOf, eventMeetsFull, startedOn, Running}
+use Rattle.demands.specs.Joining.{Join, joinsIf}
 use Rattle.demands.specs.Telling.{toldIf, tellsNone}
-use Rattle.demands.specs.Managers.{Manager, ours, Reached, at-first, called, restarted, JustStarted, first-start, new-start, everyTold, put, Sight, atStart, sightNext, readyTold, sightTold, paperStart, shouldTell, Demand2Of}
-use Rattle.demands.proofs.Machine.{steady, roomFlag, toldBy, same-told, call-step, call-state, fine-call, own-told, ruled-flag}
-use Rattle.demands.proofs.Joined.{joinOf, SoundView, FineBlock, call-blocks}
+use Rattle.demands.specs.Managers.{ours, Reached, at-first, called, restarted, first-start, new-start, everyTold, put, Sight, atStart, sightNext, readyTold, sightTold, paperStart, shouldTell, Demand2Of}
+use Rattle.demands.proofs.Machine.{roomFlag, toldBy, same-told, call-step, call-state, fine-call, own-told, ruled-flag}
+use Rattle.demands.proofs.Joined.{joinOf, sane-view, FineBlock, call-blocks}
 use Rattle.demands.proofs.Telling.{act-both, act-told}
-use Rattle.demands.proofs.Orders.{started-is, calm-started, empty-unready}
+use Rattle.demands.proofs.Orders.{started-is, calm-call, calm-started, empty-unready}
 
 -- ---- an event that hands up nothing
 
@@ -70,7 +70,6 @@ pub record Seen (st : State) (s : Sight) : Type 0 where
   pub calm : Calm st
   pub ready : st .table .ready ≡ s .ready
   pub stands : (n : ℕ) → joinOf (view n st) ≡ s .stand n
-  pub sound : (n : ℕ) → SoundView (view n st)
 
 no-number-at : (n : ℕ) → PARTS ≡ numberPlace n emptyTable
 unfolding numberPlace emptyTable PARTS place holds
@@ -81,7 +80,7 @@ empty-shut n store = view-shut n (stateOf emptyTable store) PARTS (no-number-at 
 
 pub seen-start : Seen paperStart atStart
 unfolding paperStart
-seen-start = record { calm = calm-start; ready = empty-unready; stands = λ n. ap joinOf (empty-shut n (zeros STORE)); sound = λ n. rw (empty-shut n (zeros STORE)) tt }
+seen-start = record { calm = calm-start; ready = empty-unready; stands = λ n. ap joinOf (empty-shut n (zeros STORE)) }
 
 -- a Capabilities request moves no channel
 ready-view : (n : ℕ) (st : State) (version : ℕ) → view n (readied st version .state) ≡ view n st
@@ -121,10 +120,7 @@ module _ (st : State) (s : Sight) (g : Seen st s) where
     own-view = step-own st (sane-steady st (g .calm .sane) r) n a z ∙ ap (λ (d : Did). d .view) (ruled-flag (st .table .level) st (running r) n a)
 
     own-stands : joinOf (view n (stepped st (Of n a) .state)) ≡ joinsIf full (s .stand n) a .join
-    own-stands = ap joinOf own-view ∙ act-both full (st .table .level) n (view n st) a (g .sound n) b .agrees .stands ∙ ap (λ (j : Join). joinsIf full j a .join) (g .stands n)
-
-    own-sound : SoundView (view n (stepped st (Of n a) .state))
-    own-sound = rw own-view (act-both full (st .table .level) n (view n st) a (g .sound n) b .agrees .sound)
+    own-stands = ap joinOf own-view ∙ act-both full (st .table .level) n (view n st) a (sane-view st (g .calm .sane) n) b .agrees .stands ∙ ap (λ (j : Join). joinsIf full j a .join) (g .stands n)
 
     other-view : (m : ℕ) → m ≢ n → view m (stepped st (Of n a) .state) ≡ view m st
     other-view m d = step-other m st (sane-steady st (g .calm .sane) r) (Of n a) z (ne-eqb n m (λ e. d (sym e)))
@@ -138,13 +134,6 @@ module _ (st : State) (s : Sight) (g : Seen st s) where
         go true e = rw (eqb-true m n e) own-stands
         go false e = ap joinOf (other-view m (eqb-false m n e)) ∙ g .stands m
 
-    all-sound : (m : ℕ) → SoundView (view m (stepped st (Of n a) .state))
-    all-sound m = go (eqb m n) refl
-      where
-        go : (t : Bool) → eqb m n ≡ t → SoundView (view m (stepped st (Of n a) .state))
-        go true e = rw (eqb-true m n e) own-sound
-        go false e = rw (other-view m (eqb-false m n e)) (g .sound m)
-
   -- a refusal moves nothing
   stays : (e : Event) (why : Refusal) → stepped st e ≡ refused st why → Seen (stepped st e .state) s
   stays e why h = rw h g
@@ -155,7 +144,7 @@ module _ (st : State) (s : Sight) (g : Seen st s) where
   seen-caps version z = go (st .table .ready) refl
     where
       go : (t : Bool) → st .table .ready ≡ t → Seen (stepped st (Capabilities version) .state) (record { ready = true; stand = s .stand })
-      go true r = rw (too-late st version r) (record { calm = g .calm; ready = r; stands = g .stands; sound = g .sound })
+      go true r = rw (too-late st version r) (record { calm = g .calm; ready = r; stands = g .stands })
       go false r = made-seen (calm-step st (g .calm) (Capabilities version) z) (made-ready st version r)
         where
           made-seen :
@@ -165,7 +154,6 @@ module _ (st : State) (s : Sight) (g : Seen st s) where
             calm = k;
             ready = ap (λ (x : Stepped). x .state .table .ready) h ∙ made-is st version;
             stands = λ n. ap (λ (x : Stepped). joinOf (view n (x .state))) h ∙ ap joinOf (ready-view n st version) ∙ g .stands n;
-            sound = λ n. subst SoundView (sym (ap (λ (x : Stepped). view n (x .state)) h ∙ ready-view n st version)) (g .sound n);
           }
 
   seen-of :
@@ -177,11 +165,10 @@ module _ (st : State) (s : Sight) (g : Seen st s) where
         calm = calm-step st (g .calm) (Of n a) z;
         ready = step-steady st (sane-steady st (g .calm .sane) r) (Of n a) z .ready;
         stands = all-stand n a z b r;
-        sound = all-sound n a z b r;
       })
   seen-of n a z b false r = rw (sight-early (eventMeetsFull st (Of n a)) s n a (sym (g .ready) ∙ r)) (stays (Of n a) (tooSoon a) (too-early st n a r))
 
-  seen-step : (e : Event) → FineEvent e → FineBlock e → Seen (stepped st e .state) (sightNext (eventMeetsFull st e) s e)
+  pub seen-step : (e : Event) → FineEvent e → FineBlock e → Seen (stepped st e .state) (sightNext (eventMeetsFull st e) s e)
   unfolding sightNext
   seen-step (Unreadable why) z b = stays (Unreadable why) why (stray st why)
   seen-step (Capabilities version) z b = seen-caps version z
@@ -199,7 +186,7 @@ module _ (st : State) (s : Sight) (g : Seen st s) where
       → told st c ≡ cond t (toldIf (eventMeetsFull st (Of n a)) n (s .stand n) a) (tellsNone (Refused (tooSoon a) NoChannel))
   of-told c n a z b e true r =
       own-told st c (sane-steady st (g .calm .sane) r) n a z e ∙ ap toldBy (ruled-flag (st .table .level) st (running r) n a)
-      ∙ act-told (eventMeetsFull st (Of n a)) (st .table .level) n (view n st) a (g .sound n) b
+      ∙ act-told (eventMeetsFull st (Of n a)) (st .table .level) n (view n st) a (sane-view st (g .calm .sane) n) b
       ∙ ap (λ (j : Join). toldIf (eventMeetsFull st (Of n a)) n j a) (g .stands n)
   of-told c n a z b e false r = refused-told st c (g .calm .sane) (tooSoon a) (ap (stepped st) e ∙ too-early st n a r)
 
@@ -225,9 +212,7 @@ our-run st s g (c ∷ xs) =
 reached-calm : (store : List ℕ) → length store ≡ STORE → (st : State) → Reached (ours store) st → Calm st
 unfolding ours
 reached-calm store size st at-first = calm-started store size
-reached-calm store size st (called {s = s} c r) =
-    let g = reached-calm store size s r in
-    rw (call-state s c (g .sane)) (calm-step s g (eventIn (c .asked)) (fine-call (c .asked)))
+reached-calm store size st (called {s = s} c r) = calm-call s (reached-calm store size s r) c
 reached-calm store size st (restarted {s = s} r) = calm-started (s .store) (reached-calm store size s r .sane .bytes)
 
 started-run :

@@ -14,7 +14,7 @@ use Rattle.lists.specs.Places.{place}
 use Rattle.reading.specs.Reading.{readPdu}
 use Rattle.reading.specs.declared.Charges.{Charges}
 use Rattle.reading.specs.declared.Pdu.the-variants.{CapsRequest}
-use Rattle.channel.specs.Channel.{View, Shut}
+use Rattle.channel.specs.Channel.{Shut}
 use Rattle.table.specs.Table.{emptyTable, holds, numberPlace}
 use Rattle.connection.specs.States.{State, stateOf, view}
 use Rattle.client.specs.Events.{Event, Capabilities, eventOf}
@@ -25,14 +25,14 @@ use Rattle.steps.specs.States.{FineEvent, Calm}
 use Rattle.steps.proofs.Calm.{calm-start, calm-step}
 use Rattle.demands.specs.Trace.{consIf, keep, seen}
 use Rattle.demands.specs.Runs.{receives, Call, after, toldTo, ends, eventIn, isEventOf, ownEvents, meetsFull, fullFlags, startedOn, JustReady, Running}
-use Rattle.demands.specs.Joining.{Off, brought, joinWith, handed, once}
+use Rattle.demands.specs.Joining.{Off, brought, handed}
 use Rattle.demands.specs.Telling.{toldWith}
-use Rattle.demands.specs.Orders.{TwoOrders, NeverFull, SameEitherWay, SameButPlaces, SameForOne}
-use Rattle.demands.proofs.Traces.{Input, withFlag, eventsIn, flagsIn, trace-inv, trace-outs, same-outs, same-final, inputs-same, inputs-events, inputs-flags, never-seen}
+use Rattle.demands.specs.Orders.{TwoOrders, NeverFull, SameEitherWay, SameButPlaces}
+use Rattle.demands.proofs.Traces.{Input, withFlag, eventsIn, flagsIn, trace-inv, trace-final, trace-outs, inputs-events, inputs-flags, never-seen}
 use Rattle.demands.proofs.Totals.{same-channels}
-use Rattle.demands.proofs.Machine.{readCall, chanNext, chanOut, framed, not-bad, call-state, fine-call}
-use Rattle.demands.proofs.Joined.{AllFine, joinOf, SoundView, call-blocks}
-use Rattle.demands.proofs.Telling.{run-told, with-brings, with-once, unflagged}
+use Rattle.demands.proofs.Machine.{readCall, framed, not-bad, call-state, fine-call}
+use Rattle.demands.proofs.Joined.{AllFine, joinOf, sane-view, call-blocks}
+use Rattle.demands.proofs.Telling.{leftWith, run-told, run-left, with-brings, with-once, unflagged}
 
 -- ---- a connection just made ready
 
@@ -103,10 +103,13 @@ fine-events n (c ∷ xs) = go (isEventOf n c) (fine-events n xs)
     go false f = f
 
 -- every state that calls reach from Start, in any order, is calm
+pub calm-call : (st : State) → Calm st → (c : Call) → Calm (after st c)
+calm-call st g c = rw (call-state st c (g .sane)) (calm-step st g (eventIn (c .asked)) (fine-call (c .asked)))
+
 pub calm-run : (st : State) → Calm st → (xs : List Call) → Calm (ends st xs)
 unfolding ends
 calm-run st g [] = g
-calm-run st g (c ∷ xs) = calm-run (after st c) (rw (call-state st c (g .sane)) (calm-step st g (eventIn (c .asked)) (fine-call (c .asked)))) xs
+calm-run st g (c ∷ xs) = calm-run (after st c) (calm-call st g c) xs
 
 pub calm-started : (store : List ℕ) → length store ≡ STORE → Calm (startedOn store)
 calm-started store size = subst Calm (sym (started-is store size)) calm-start
@@ -125,7 +128,8 @@ runs-on st j xs = let b = fresh st j in trace-inv (framed (b .level) 0) st xs (b
 pub runs-at-its-level : (st : State) → JustReady st → (xs : List Call) → Running (ends st xs .table .level) (ends st xs)
 runs-at-its-level st j xs = let g = runs-on st j xs in record { calm = g .calm; ready = g .ready; level = refl }
 
--- ---- one channel, by its own events and flags
+-- ---- one channel by itself. What is said anywhere of one channel beside others, in two orders, beside strangers, after a close or a
+-- garbled block, follows from these two
 
 module _ (l : ℕ) (st : State) (g : Running l st) (n : ℕ) (xs : List Call) where
   own : List (Input Event Bool)
@@ -139,17 +143,21 @@ module _ (l : ℕ) (st : State) (g : Running l st) (n : ℕ) (xs : List Call) wh
   unfolding fullFlags own
   own-flags = inputs-flags readCall after meetsFull (isEventOf n) st xs
 
-  -- what a channel is told, wherever it stands
-  pub told-with : SoundView (view n st) → toldTo n st xs ≡ toldWith (joinOf (view n st)) (ownEvents n xs) (fullFlags n st xs)
+  -- what it is told is what its own events give from where its joining stands, each with whether it met a full table
+  pub told-with : toldTo n st xs ≡ toldWith (joinOf (view n st)) (ownEvents n xs) (fullFlags n st xs)
   unfolding toldTo own
-  told-with s =
-      trace-outs (framed l n) st xs g ∙ run-told l (view n st) own (rw own-events (fine-events n xs)) s
-      ∙ ap (λ (es : List Event). toldWith (joinOf (view n st)) es (flagsIn own)) own-events
-      ∙ ap (toldWith (joinOf (view n st)) (ownEvents n xs)) own-flags
+  told-with =
+      trace-outs (framed l n) st xs g
+      ∙ run-told l (view n st) own (rw own-events (fine-events n xs)) (sane-view st (g .calm .sane) n) ∙ rw (own-events, own-flags)
+
+  -- and so is how it is left
+  pub left-with : view n (ends st xs) ≡ leftWith l (view n st) (ownEvents n xs) (fullFlags n st xs)
+  unfolding ends own
+  left-with = trace-final (framed l n) st xs g ∙ run-left l (view n st) own ∙ rw (own-events, own-flags)
 
   -- where it is not open
   pub told-shut : view n st ≡ Shut → toldTo n st xs ≡ toldWith Off (ownEvents n xs) (fullFlags n st xs)
-  told-shut v = told-with (rw v tt) ∙ ap (λ (w : View). toldWith (joinOf w) (ownEvents n xs) (fullFlags n st xs)) v
+  told-shut v = told-with ∙ rw v
 
   -- and no table is full
   pub told-roomy : view n st ≡ Shut → NeverFull st xs → toldTo n st xs ≡ toldWith Off (ownEvents n xs) []
@@ -158,21 +166,14 @@ module _ (l : ℕ) (st : State) (g : Running l st) (n : ℕ) (xs : List Call) wh
       told-shut v ∙ ap (toldWith Off (ownEvents n xs)) (never-seen after meetsFull (isEventOf n) st xs f)
       ∙ unflagged (keep (isEventOf n) xs) Off (ownEvents n xs)
 
--- two runs with the same own events and flags
-module _ (l : ℕ) (st : State) (g : Running l st) (n : ℕ) (xs ys : List Call) (e : ownEvents n xs ≡ ownEvents n ys) (f : fullFlags n st xs ≡ fullFlags n st ys) where
-  same-inputs : own l st g n xs ≡ own l st g n ys
-  same-inputs =
-      inputs-same (own l st g n xs) (own l st g n ys)
-      (own-events l st g n xs ∙ e ∙ sym (own-events l st g n ys))
-      (own-flags l st g n xs ∙ f ∙ sym (own-flags l st g n ys))
+-- two runs, from two states or one, in which its own events are the same and met a full table alike
+module _ (l l′ : ℕ) (st st′ : State) (g : Running l st) (g′ : Running l′ st′) (n : ℕ) (xs ys : List Call)
+    (e : ownEvents n xs ≡ ownEvents n ys) (f : fullFlags n st xs ≡ fullFlags n st′ ys) where
+  pub same-told : joinOf (view n st) ≡ joinOf (view n st′) → toldTo n st xs ≡ toldTo n st′ ys
+  same-told v = told-with l st g n xs ∙ rw (v, e, f) (sym (told-with l′ st′ g′ n ys))
 
-  pub strangers : SameForOne st xs ys n
-  unfolding toldTo ends own
-  strangers =
-      record {
-        same-told = same-outs (framed l n) st st xs ys g g refl same-inputs;
-        same-left = same-final (framed l n) st st xs ys g g refl same-inputs;
-      }
+  pub same-left : l ≡ l′ → view n st ≡ view n st′ → view n (ends st xs) ≡ view n (ends st′ ys)
+  same-left p v = left-with l st g n xs ∙ rw (p, v, e, f) (sym (left-with l′ st′ g′ n ys))
 
 -- ---- demand 3
 
@@ -191,18 +192,21 @@ same-flags n st xs ys e f h =
     as-events (c ∷ cs) = ap (λ (r : List Bool). false ∷ r) (as-events cs)
 
 module _ (st : State) (j : JustReady st) (xs ys : List Call) (o : TwoOrders xs ys) (f : NeverFull st xs) (h : NeverFull st ys) where
-  both-ways : (n : ℕ) → SameForOne st xs ys n
-  both-ways n = let b = fresh st j in strangers (b .level) st (b .running) n xs ys (o n) (same-flags n st xs ys (o n) f h)
-
   pub same-either-way : (n : ℕ) → SameEitherWay st xs ys n
   same-either-way n =
       let b = fresh st j in
       let told = told-roomy (b .level) st (b .running) n xs (b .shut n) f in
+      let flags = same-flags n st xs ys (o n) f h in
       record {
-        same-told = both-ways n .same-told;
+        same-told = same-told (b .level) (b .level) st st (b .running) (b .running) n xs ys (o n) flags refl;
         joined = ap (map brought) told ∙ with-brings Off (ownEvents n xs) [];
         each-once = ap (map handed) told ∙ with-once Off (ownEvents n xs) [];
       }
+
+  both-left : (n : ℕ) → view n (ends st xs) ≡ view n (ends st ys)
+  both-left n =
+      let b = fresh st j in
+      same-left (b .level) (b .level) st st (b .running) (b .running) n xs ys (o n) (same-flags n st xs ys (o n) f h) refl refl
 
   pub same-but-places : SameButPlaces (ends st xs) (ends st ys)
   same-but-places =
@@ -211,8 +215,8 @@ module _ (st : State) (j : JustReady st) (xs ys : List Call) (o : TwoOrders xs y
       record {
         ready = a .ready ∙ sym (b .ready);
         level = a .level ∙ sym (b .level);
-        totals = same-channels (ends st xs) (ends st ys) (a .calm .sane) (b .calm .sane) (λ n. both-ways n .same-left);
-        channels = λ n. both-ways n .same-left;
+        totals = same-channels (ends st xs) (ends st ys) (a .calm .sane) (b .calm .sane) both-left;
+        channels = both-left;
         records-a = a .calm .blank;
         records-b = b .calm .blank;
         parts-a = a .calm .zero;

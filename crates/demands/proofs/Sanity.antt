@@ -9,9 +9,6 @@ use lib.ListN.{length}
 use Rattle.channel.specs.declared.Record.{Record}
 use Rattle.channel.specs.declared.Took.{Took}
 use Rattle.channel.specs.declared.Took.the-variants.{Bars, Spoils, Holds, Finishes}
-use Rattle.channel.specs.declared.Decline.the-variants.{Unlisted, Full}
-use Rattle.channel.specs.declared.Answer.{Answer}
-use Rattle.channel.specs.declared.Answer.the-variants.{Ready, Opened, Declined, Held, Message, Closed, Ignored, Refused}
 use Rattle.channel.specs.Stages.{took}
 use Rattle.channel.specs.Channel.{Act, BadCreate, Create, Bring, Garbled, Closing, LocalClose, View, Shut, Open, Did, opening, answerTo, landed, act}
 use Rattle.connection.specs.States.{State, view}

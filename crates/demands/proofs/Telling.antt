@@ -1,7 +1,7 @@
 -- One channel's rules tell what `toldWith` says: the steps by where its joining stands, with each event's own full-table flag, and each
 -- message once. So does a run of its own events.
 -- Assumes nothing.
-use Prim.Native.Nat.{ℕ, suc, _+_, _-_, _≤_}
+use Prim.Native.Nat.{ℕ, _+_, _-_, _≤_}
 use mathlib.Core.Path.{_≡_, refl, sym, ap, _∙_}
 use mathlib.Core.Bool.{Bool, true, false, cond, _&&_}
 use mathlib.Core.List.{List, [], _∷_, _++_, map}
@@ -32,7 +32,7 @@ use Rattle.client.specs.Events.{Event, Unreadable, Capabilities, Of}
 use Rattle.demands.specs.Runs.{Told, firstOf}
 use Rattle.demands.specs.Joining.{Join, Off, Waiting, Gathering, Dead, Brings, NoMessage, StillToCome, Complete, still, gathered, startsWith, goesOn, joins, wantsRoom, joinsIf, flag, flags, joinWith, broughtBy, brought, once, handed}
 use Rattle.demands.specs.Telling.{Spoken, says, whyNot, answered, stepSays, saysIf, handsUp, toldIf, tellsNone, toldWith}
-use Rattle.demands.proofs.Traces.{Input, eventsIn, flagsIn, aloneOuts}
+use Rattle.demands.proofs.Traces.{Input, eventsIn, flagsIn, aloneFinal, aloneOuts}
 use Rattle.demands.proofs.Machine.{roomFlag, toldBy, chanNext, chanOut, same-told}
 use Rattle.demands.proofs.Joined.{message-part, joinAt, joinOf, SoundView, Agrees, FineBlock, AllFine, act-joins}
 
@@ -286,6 +286,16 @@ run-told l v (i ∷ is) f s = go (i .event) (i .flag) (f .0) (λ w t. run-told l
         let b = act-both full l n v a s z in
         let rest = later (act l n (roomFlag full) v a .view) (b .agrees .sound) in
         rw (act-told full l n v a s z, rest, b .agrees .stands)
+
+-- and where they leave it
+abbrev pub leftWith : ℕ → View → List Event → List Bool → View
+leftWith l v [] fs = v
+leftWith l v (e ∷ es) fs = leftWith l (chanNext l (flag fs) v e) es (flags fs)
+
+pub run-left :
+    (l : ℕ) (v : View) (is : List (Input Event Bool)) → aloneFinal (chanNext l) v is ≡ leftWith l v (eventsIn is) (flagsIn is)
+run-left l v [] = refl
+run-left l v (i ∷ is) = run-left l (chanNext l (i .flag) v (i .event)) is
 
 -- what the steps say brings what the joining brings
 block-brings : (n : ℕ) (why : Refusal) (b : Brings) → broughtBy (answered n why b) (handsUp b) ≡ b

@@ -12,15 +12,17 @@ use Rattle.channel.specs.Channel.{Act}
 use Rattle.connection.specs.States.{State}
 use Rattle.client.specs.Events.{Event, Unreadable, Capabilities, Of, isOf}
 use Rattle.client.specs.Client.{stepped}
-use Rattle.demands.specs.Trace.{consIf, keep, seen}
+use Rattle.demands.specs.Trace.{consIf, keep, final, seen}
 use Rattle.demands.specs.Runs.{Call, Told, eventIn, isEventOf, eventsOf, ownEvents, eventMeetsFull}
-use Rattle.demands.specs.Joining.{Join, Off, joins, joinsIf, brought, handed}
+use Rattle.demands.specs.Joining.{Off, joinsIf, brought, handed}
 use Rattle.demands.specs.Telling.{toldIf, toldWith}
 use Rattle.demands.specs.Orders.{TwoOrders}
-use Rattle.demands.specs.Managers.{Manager, ours, JustStarted, everyTold, tellsTo, put, Sight, atStart, sightNext, sightTold, paperStart, shouldTell, nobodys, isNobodys, Roomy, strayUp, AllEmpty, OrdersAlike, Orders, Demand2Of, Demand3Of}
-use Rattle.demands.proofs.Machine.{readCall}
-use Rattle.demands.proofs.Telling.{with-brings, with-once}
-use Rattle.demands.proofs.Managers.{sight-in, ours-demand-2}
+use Rattle.demands.specs.Managers.{Manager, ours, JustStarted, everyTold, tellsTo, put, Sight, atStart, sightNext, sightTold, paperStart, paperNext, shouldTell, flagsFor, nobodys, isNobodys, Roomy, strayUp, AllEmpty, Orders, Demand2Of, Demand3Of, paperAfter, StrangersOf}
+use Rattle.demands.proofs.Machine.{readCall, fine-call}
+use Rattle.demands.proofs.Joined.{call-blocks}
+use Rattle.demands.proofs.Telling.{with-brings, with-once, unflagged}
+use Rattle.demands.proofs.Traces.{never-seen}
+use Rattle.demands.proofs.Managers.{Seen, sight-in, seen-start, seen-step, ours-demand-2}
 
 -- a channel's own events are those of the run's events that are of it
 pub own-map : (n : ℕ) (xs : List Call) → ownEvents n xs ≡ keep (isOf n) (map readCall xs)
@@ -51,37 +53,44 @@ unfolding isEventOf
 marks n [] = refl
 marks n (c ∷ xs) = ap (λ (r : List Bool). isOf n (eventIn (c .asked)) ∷ r) (marks n xs)
 
--- ---- what a ready connection should be told on one channel, where no table is full
+-- ---- what a ready connection should be told on one channel: what that channel's own events give, with their flags
 
-of-next :
-    (p : State) (s : Sight) (m : ℕ) (a : Act) → s .ready ≡ true → eventMeetsFull p (Of m a) ≡ false
-    → sightNext (eventMeetsFull p (Of m a)) s (Of m a) ≡ record { ready = true; stand = put m (joins (s .stand m) a .join) (s .stand) }
-unfolding joinsIf
-of-next p s m a r f = rw f (sight-in false s m a r)
-
-of-tells :
-    (p : State) (s : Sight) (m : ℕ) (a : Act) → s .ready ≡ true → eventMeetsFull p (Of m a) ≡ false
-    → sightTold (eventMeetsFull p (Of m a)) s (Of m a) ≡ toldIf false m (s .stand m) a
+of-tells : (full : Bool) (s : Sight) (m : ℕ) (a : Act) → s .ready ≡ true → sightTold full s (Of m a) ≡ toldIf full m (s .stand m) a
 unfolding sightTold
-of-tells p s m a r f = rw (f, r)
+of-tells full s m a r = rw r
 
 own-should :
-    (n : ℕ) (p : State) (s : Sight) (es : List Event) → s .ready ≡ true → Roomy p es
-    → pick (map (isOf n) es) (shouldTell p s es) ≡ toldWith (s .stand n) (keep (isOf n) es) []
-unfolding shouldTell toldWith sightNext joinsIf
-own-should n p s [] r f = refl
-own-should n p s (Unreadable why ∷ es) r f = own-should n (stepped p (Unreadable why) .state) s es r (f .1)
-own-should n p s (Capabilities version ∷ es) r f = own-should n (stepped p (Capabilities version) .state) (record { ready = true; stand = s .stand }) es refl (f .1)
-own-should n p s (Of m a ∷ es) r f =
-    rw (of-tells p s m a r (f .0), of-next p s m a r (f .0), own-should n (stepped p (Of m a) .state) (record { ready = true; stand = put m (joins (s .stand m) a .join) (s .stand) }) es refl (f .1)) (go (eqb m n) refl)
+    (n : ℕ) (p : State) (s : Sight) (es : List Event) → s .ready ≡ true
+    → pick (map (isOf n) es) (shouldTell p s es) ≡ toldWith (s .stand n) (keep (isOf n) es) (flagsFor n p es)
+unfolding shouldTell toldWith sightNext flagsFor
+own-should n p s [] r = refl
+own-should n p s (Unreadable why ∷ es) r = own-should n (paperNext p (Unreadable why)) s es r
+own-should n p s (Capabilities version ∷ es) r = own-should n (paperNext p (Capabilities version)) (record { ready = true; stand = s .stand }) es refl
+own-should n p s (Of m a ∷ es) r =
+    let full = eventMeetsFull p (Of m a) in
+    let next : Sight = record { ready = true; stand = put m (joinsIf full (s .stand m) a .join) (s .stand) } in
+    rw (of-tells full s m a r, sight-in full s m a r, own-should n (paperNext p (Of m a)) next es refl) (go (eqb m n) refl)
   where
     go :
         (t : Bool) → eqb m n ≡ t
-        → consIf t (toldIf false m (s .stand m) a) (toldWith (cond (eqb n m) (joins (s .stand m) a .join) (s .stand n)) (keep (isOf n) es) []) ≡ toldWith (s .stand n) (consIf t (Of m a) (keep (isOf n) es)) []
+        → consIf t (toldIf (eventMeetsFull p (Of m a)) m (s .stand m) a) (toldWith (cond (eqb n m) (joinsIf (eventMeetsFull p (Of m a)) (s .stand m) a .join) (s .stand n)) (keep (isOf n) es) (flagsFor n (paperNext p (Of m a)) es)) ≡ toldWith (s .stand n) (consIf t (Of m a) (keep (isOf n) es)) (consIf t (eventMeetsFull p (Of m a)) (flagsFor n (paperNext p (Of m a)) es))
     go true e =
         let same : m ≡ n = eqb-true m n e in
         rw (eq-eqb n m (sym same), ← same)
     go false e = rw (ne-eqb n m (λ (d : n ≡ m). eqb-false m n e (sym d)))
+
+-- so a manager that is right in a run tells one channel that
+own-run :
+    {S : Type 0} (m : Manager S) (s : S) (p : State) (t : Sight) (xs : List Call) → t .ready ≡ true
+    → everyTold m s xs ≡ shouldTell p t (eventsOf xs)
+    → (n : ℕ) → tellsTo m s n xs ≡ toldWith (t .stand n) (ownEvents n xs) (flagsFor n p (eventsOf xs))
+unfolding tellsTo everyTold
+own-run m s p t xs r right n =
+    seen-pick (m .next) (isEventOf n) (m .tells) s xs
+    ∙ ap (λ (l : List Told). pick (map (isEventOf n) xs) l) right
+    ∙ ap (λ (b : List Bool). pick b (shouldTell p t (eventsOf xs))) (marks n xs)
+    ∙ own-should n p t (eventsOf xs) r
+    ∙ ap (λ (es : List Event). toldWith (t .stand n) es (flagsFor n p (eventsOf xs))) (sym (own-map n xs))
 
 stays-ready : (full : Bool) (s : Sight) (n : ℕ) (a : Act) → s .ready ≡ true → sightNext full s (Of n a) .ready ≡ true
 unfolding sightNext
@@ -134,13 +143,11 @@ RightOnceReady m s c =
 module _ {S : Type 0} (m : Manager S) (s : S) (c : Call) (d : RightOnceReady m s c) where
   own-now :
       (xs : List Call) → Roomy paperStart (eventsOf (c ∷ xs)) → (n : ℕ) → tellsTo m (m .next s c) n xs ≡ toldWith Off (ownEvents n xs) []
-  unfolding tellsTo everyTold now sight RightOnceReady
+  unfolding now sight RightOnceReady flagsFor
   own-now xs f n =
-      seen-pick (m .next) (isEventOf n) (m .tells) (m .next s c) xs
-      ∙ ap (λ (l : List Told). pick (map (isEventOf n) xs) l) (d xs f)
-      ∙ ap (λ (b : List Bool). pick b (shouldTell (now c) sight (eventsOf xs))) (marks n xs)
-      ∙ own-should n (now c) sight (eventsOf xs) refl (f .1)
-      ∙ ap (λ (es : List Event). toldWith Off es []) (sym (own-map n xs))
+      own-run m (m .next s c) (now c) sight xs refl (d xs f) n
+      ∙ ap (toldWith Off (ownEvents n xs)) (never-seen paperNext eventMeetsFull (isOf n) (now c) (eventsOf xs) (f .1))
+      ∙ unflagged (keep (isOf n) (eventsOf xs)) Off (ownEvents n xs)
 
   strays-now : (xs : List Call) → Roomy paperStart (eventsOf (c ∷ xs)) → AllEmpty (strayUp m (m .next s c) xs)
   unfolding strayUp everyTold sight RightOnceReady
@@ -186,3 +193,38 @@ two-gives-three m d s j c version caps xs ys o f h = orders m s c (two-once-read
 
 pub ours-demand-3 : (store : List ℕ) → length store ≡ STORE → Demand3Of (ours store)
 ours-demand-3 store size = two-gives-three (ours store) (ours-demand-2 store size)
+
+-- ---- and strangers
+
+-- a manager that is right from a state on, beside the paper's steps
+record Right {S : Type 0} (m : Manager S) (s : S) (p : State) : Type 0 where
+  pub sight : Sight
+  pub seen : Seen p sight
+  pub right : (xs : List Call) → everyTold m s xs ≡ shouldTell p sight (eventsOf xs)
+
+right-next : {S : Type 0} (m : Manager S) (s : S) (p : State) → Right m s p → (c : Call) → Right m (m .next s c) (paperNext p (eventIn (c .asked)))
+unfolding everyTold shouldTell
+right-next m s p r c =
+    record {
+      sight = sightNext (eventMeetsFull p (eventIn (c .asked))) (r .sight) (eventIn (c .asked));
+      seen = seen-step p (r .sight) (r .seen) (eventIn (c .asked)) (fine-call (c .asked)) (call-blocks (c .asked));
+      right = λ xs. ap tail (r .right (c ∷ xs));
+    }
+
+right-run :
+    {S : Type 0} (m : Manager S) (s : S) (p : State) → Right m s p → (xs : List Call)
+    → Right m (final (m .next) s xs) (final paperNext p (eventsOf xs))
+right-run m s p r [] = r
+right-run m s p r (c ∷ xs) = right-run m (m .next s c) (paperNext p (eventIn (c .asked))) (right-next m s p r c) xs
+
+pub two-gives-strangers : {S : Type 0} (m : Manager S) → Demand2Of m → StrangersOf m
+unfolding StrangersOf Demand2Of
+two-gives-strangers m d s j before ready n xs ys e f =
+    let r = right-run m s paperStart (record { sight = atStart; seen = seen-start; right = d s j }) before in
+    let p = paperAfter before in
+    let on : r .sight .ready ≡ true = sym (r .seen .ready) ∙ ready in
+    let told = own-run m (final (m .next) s before) p (r .sight) in
+    told xs on (r .right xs) n ∙ rw (e, f) (sym (told ys on (r .right ys) n))
+
+pub ours-strangers : (store : List ℕ) → length store ≡ STORE → StrangersOf (ours store)
+ours-strangers store size = two-gives-strangers (ours store) (ours-demand-2 store size)

@@ -1,6 +1,6 @@
 -- The trace theorem, over any machine that has a view of one channel.
 -- Assumes nothing.
-use mathlib.Core.Path.{_≡_, refl, sym, ap, _∙_}
+use mathlib.Core.Path.{_≡_, refl, ap, _∙_}
 use mathlib.Core.Bool.{Bool, true, false}
 use mathlib.Core.List.{List, [], _∷_, map}
 use Rattle.demands.specs.Trace.{consIf, keep, final, seen, Never}
@@ -64,19 +64,6 @@ module _ {S R E F O W : Type 0} {read : R → E} {next : S → R → S} {out : S
       go true h = rw (m .own s x i h, m .says s x i h)
       go false h = rw (m .other s x i h)
 
-  -- two runs that agree on what is read in the channel's own inputs and on their flags agree on what it is told and where it ends
-  pub same-outs :
-      (s s′ : S) (xs xs′ : List R) → Inv s → Inv s′ → view s ≡ view s′
-      → seen next on (withFlag read flag) s xs ≡ seen next on (withFlag read flag) s′ xs′
-      → seen next on out s xs ≡ seen next on out s′ xs′
-  same-outs s s′ xs xs′ i i′ v h = trace-outs s xs i ∙ rw (v, h) (sym (trace-outs s′ xs′ i′))
-
-  pub same-final :
-      (s s′ : S) (xs xs′ : List R) → Inv s → Inv s′ → view s ≡ view s′
-      → seen next on (withFlag read flag) s xs ≡ seen next on (withFlag read flag) s′ xs′
-      → view (final next s xs) ≡ view (final next s′ xs′)
-  same-final s s′ xs xs′ i i′ v h = trace-final s xs i ∙ rw (v, h) (sym (trace-final s′ xs′ i′))
-
 -- ---- a channel's inputs are its own events beside their flags
 
 abbrev pub eventsIn : {E F : Type 0} → List (Input E F) → List E
@@ -86,25 +73,6 @@ eventsIn (i ∷ is) = i .event ∷ eventsIn is
 abbrev pub flagsIn : {E F : Type 0} → List (Input E F) → List F
 flagsIn [] = []
 flagsIn (i ∷ is) = i .flag ∷ flagsIn is
-
-same-input :
-    {E F : Type 0} {e e′ : E} {f f′ : F} → e ≡ e′ → f ≡ f′
-    → _≡_ {A = Input E F} (record { event = e; flag = f }) (record { event = e′; flag = f′ })
-same-input p q = cc
-
--- inputs with the same events and the same flags are the same
-pub inputs-same : {E F : Type 0} (is js : List (Input E F)) → eventsIn is ≡ eventsIn js → flagsIn is ≡ flagsIn js → is ≡ js
-inputs-same [] [] e f = refl
-inputs-same [] (j ∷ js) e f = cc
-inputs-same (i ∷ is) [] e f = cc
-inputs-same (i ∷ is) (j ∷ js) e f =
-    let same-event : i .event ≡ j .event = cc in
-    let same-flag : i .flag ≡ j .flag = cc in
-    let here : i ≡ j = same-input same-event same-flag in
-    let events : eventsIn is ≡ eventsIn js = cc in
-    let flags : flagsIn is ≡ flagsIn js = cc in
-    let rest : is ≡ js = inputs-same is js events flags in
-    cc
 
 module _ {S R E F : Type 0} (read : R → E) (next : S → R → S) (flag : S → R → F) (on : R → Bool) where
   -- the events are those that are read

@@ -12,13 +12,13 @@ use Rattle.connection.specs.States.{State, view, roomIn, FineAct}
 use Rattle.client.specs.Events.{Event, Of, closeAct}
 use Rattle.client.specs.Client.{stepped}
 use Rattle.steps.proofs.Channels.{step-own}
-use Rattle.demands.specs.Runs.{Call, after, toldTo, ends, eventIn, ownEvents, eventMeetsFull, fullFlags, JustReady, Running}
+use Rattle.demands.specs.Runs.{Call, after, ends, eventIn, ownEvents, eventMeetsFull, fullFlags, JustReady, Running}
 use Rattle.demands.specs.Joining.{Off, brought}
-use Rattle.demands.specs.Telling.{toldWith}
-use Rattle.demands.specs.Twice.{Anew, closed, restarted, ToldAlone}
+use Rattle.demands.specs.Twice.{Anew, closed, restarted, ToldAlone, NoTrace}
 use Rattle.demands.proofs.Machine.{steady, roomFlag, call-state, running-call, ruled-flag}
+use Rattle.demands.proofs.Joined.{joinOf}
 use Rattle.demands.proofs.Telling.{with-brings}
-use Rattle.demands.proofs.Orders.{fresh, runs-on, told-shut}
+use Rattle.demands.proofs.Orders.{fresh, runs-on, told-shut, same-told}
 
 fine-close : (local : Bool) → FineAct (closeAct local)
 fine-close true = tt
@@ -59,29 +59,30 @@ opening-is-new l st g c n pri z e shut room =
 
 -- ---- from there on
 
-alone : (l : ℕ) (st : State) → Running l st → (n : ℕ) (xs : List Call) → view n st ≡ Shut → ToldAlone n st xs
-alone l st g n xs v =
-    let told = told-shut l st g n xs v in
-    record { is-told = told; brings = ap (map brought) told ∙ with-brings Off (ownEvents n xs) (fullFlags n st xs) }
+-- a channel that begins anew is not open
+record Begins (n : ℕ) (st : State) : Type 0 where
+  pub level : ℕ
+  pub running : Running level st
+  pub shut : view n st ≡ Shut
+
+begins : (st : State) → JustReady st → (before : List Call) (n : ℕ) (anew : State) → Anew n (ends st before) anew → Begins n anew
+begins st j before n anew (closed c local e) =
+    let l = fresh st j .level in
+    let g = runs-on st j before in
+    record { level = l; running = running-call l (ends st before) c g; shut = closed-shut l (ends st before) g c n local e }
+begins st j before n anew (restarted k s) = let b = fresh anew k in record { level = b .level; running = b .running; shut = b .shut n }
 
 pub nothing-twice :
     (st : State) → JustReady st → (before : List Call) (n : ℕ) (anew : State) → Anew n (ends st before) anew → (xs : List Call)
     → ToldAlone n anew xs
-nothing-twice st j before n anew (closed c local e) xs =
-    let l = fresh st j .level in
-    let g = runs-on st j before in
-    alone l (after (ends st before) c) (running-call l (ends st before) c g) n xs (closed-shut l (ends st before) g c n local e)
-nothing-twice st j before n anew (restarted k s) xs = let b = fresh anew k in alone (b .level) anew (b .running) n xs (b .shut n)
+nothing-twice st j before n anew a xs =
+    let b = begins st j before n anew a in
+    let told = told-shut (b .level) anew (b .running) n xs (b .shut) in
+    record { is-told = told; brings = ap (map brought) told ∙ with-brings Off (ownEvents n xs) (fullFlags n anew xs) }
 
 -- whatever was before, and wherever: two histories leave no trace
-pub no-trace :
-    (n : ℕ)
-    → (st : State) → JustReady st → (before : List Call) (anew : State) → Anew n (ends st before) anew
-    → (st′ : State) → JustReady st′ → (before′ : List Call) (anew′ : State) → Anew n (ends st′ before′) anew′
-    → (xs ys : List Call) → ownEvents n xs ≡ ownEvents n ys → fullFlags n anew xs ≡ fullFlags n anew′ ys
-    → toldTo n anew xs ≡ toldTo n anew′ ys
+pub no-trace : (n : ℕ) → NoTrace n
 no-trace n st j before anew a st′ j′ before′ anew′ a′ xs ys e f =
-    nothing-twice st j before n anew a xs .is-told
-    ∙ ap (λ es. toldWith Off es (fullFlags n anew xs)) e
-    ∙ ap (toldWith Off (ownEvents n ys)) f
-    ∙ sym (nothing-twice st′ j′ before′ n anew′ a′ ys .is-told)
+    let b = begins st j before n anew a in
+    let b′ = begins st′ j′ before′ n anew′ a′ in
+    same-told (b .level) (b′ .level) anew anew′ (b .running) (b′ .running) n xs ys e f (ap joinOf (b .shut) ∙ sym (ap joinOf (b′ .shut)))

@@ -3,21 +3,19 @@
 -- Assumes nothing.
 use Prim.Native.Nat.{ℕ}
 use mathlib.Core.Path.{_≡_, refl, sym, ap, _∙_}
-use mathlib.Core.Bool.{Bool, true, false, cond}
+use mathlib.Core.Bool.{Bool, true, false}
 use mathlib.Core.List.{List, [], _∷_}
 use Rattle.paper.specs.declared.Refusal.{Refusal}
 use Rattle.lists.proofs.Cases.{choice}
 use Rattle.channel.specs.Channel.{Act, BadCreate, Create, Bring, Garbled, Closing, LocalClose}
-use Rattle.connection.specs.States.{State}
 use Rattle.client.specs.Events.{Event, Unreadable, Capabilities, Of}
-use Rattle.client.specs.Client.{stepped}
-use Rattle.demands.specs.Runs.{Call, Told, eventIn, eventsOf, eventMeetsFull}
+use Rattle.demands.specs.Runs.{Call, Told, eventIn, eventsOf}
 use Rattle.demands.specs.Joining.{Join, Off, Waiting, Gathering, Dead, Brings, NoMessage, StillToCome, Complete, joins}
 use Rattle.demands.specs.Telling.{whyNot, answered, stepSays, saysIf, toldIf}
-use Rattle.demands.specs.Managers.{Manager, JustStarted, everyTold, Sight, atStart, sightNext, sightTold, paperStart, shouldTell, Roomy, Demand3Of}
-use Rattle.demands.specs.Useless.{isFull, Beside, fresh, besideNext, managerBy, With, warpNext, warpTold, warped, forget, always, respelled, noted, from-then, spoilsAfter, doubleTold, untilFull, neverDeclines, relevelTold, wrongLevel}
+use Rattle.demands.specs.Managers.{Sight, atStart, sightNext, sightTold, shouldTell, Roomy, Demand3Of}
+use Rattle.demands.specs.Useless.{isFull, fresh, besideNext, managerBy, warpNext, warpTold, warped, forget, always, respelled, noted, from-then, spoilsAfter, doubleTold, untilFull, neverDeclines, relevelTold, wrongLevel, roomNext, makesRoom}
 use Rattle.demands.proofs.Third.{now, sight, RightOnceReady, orders}
-use Rattle.demands.proofs.ByFlags.{runBy, fullFrom, roomy-run, should-by, told-by, always-fresh, respoken, warped-by}
+use Rattle.demands.proofs.ByFlags.{runBy, roomy-run, should-by, told-by, always-fresh, respoken, warped-by}
 
 -- ---- a manager that is right, once ready, where no table is full, has demand 3
 
@@ -45,16 +43,29 @@ module _ {S : Type 0} (s : S) (next : Bool → S → Event → S) (tells : Bool 
   has-3 k b j c version caps xs ys o f h =
       rw (always-fresh next tells s b j) (orders (managerBy s next tells) (fresh s) c (once-ready c version caps (k version)) xs ys o f h)
 
--- ---- 11: it never declines for full
+-- ---- 11 and 16: what they do at a full table is seen nowhere else
 
 same-unflagged :
-    (s : Sight) (es : List Event) → runBy (λ full. sightNext false) (λ full. sightTold false) s es [] ≡ runBy sightNext sightTold s es []
-same-unflagged s [] = refl
-same-unflagged s (e ∷ es) = ap (λ (r : List Told). sightTold false s e ∷ r) (same-unflagged (sightNext false s e) es)
+    (next : Bool → Sight → Event → Sight) → ((s : Sight) (e : Event) → next false s e ≡ sightNext false s e)
+    → (s : Sight) (es : List Event) → runBy next (λ full. sightTold false) s es [] ≡ runBy sightNext sightTold s es []
+same-unflagged next same s [] = refl
+same-unflagged next same s (e ∷ es) =
+    ap (λ (r : List Told). sightTold false s e ∷ r)
+    (ap (λ (t : Sight). runBy next (λ full. sightTold false) t es []) (same s e) ∙ same-unflagged next same (sightNext false s e) es)
 
 pub never-declines-3 : Demand3Of neverDeclines
 unfolding neverDeclines sightNext sight
-never-declines-3 = has-3 atStart (λ full. sightNext false) (λ full. sightTold false) (λ version es. same-unflagged sight es)
+never-declines-3 = has-3 atStart (λ full. sightNext false) (λ full. sightTold false) (λ version es. same-unflagged (λ full. sightNext false) (λ s e. refl) sight es)
+
+room-unflagged : (s : Sight) (e : Event) → roomNext false s e ≡ sightNext false s e
+unfolding roomNext
+room-unflagged s (Unreadable why) = refl
+room-unflagged s (Capabilities version) = refl
+room-unflagged s (Of n a) = refl
+
+pub makes-room-3 : Demand3Of makesRoom
+unfolding makesRoom roomNext sightNext sight
+makes-room-3 = has-3 atStart roomNext (λ full. sightTold false) (λ version es. same-unflagged roomNext room-unflagged sight es)
 
 -- ---- what spoils nothing of the right telling
 

@@ -1,14 +1,13 @@
--- None of the useless managers has demand 2, and of the fifteen only those that are wrong after a full table or in the level have
+-- None of the useless managers has demand 2, and of the sixteen only those that are wrong after a full table or in the level have
 -- demand 3 (proofs/Unseen). Two runs refute them all, with PUMP as the one listener; each refutation looks at one place of a run.
 -- Assumes nothing.
-use Prim.Native.Nat.{ℕ, zero, suc, _+_, _≤_}
+use Prim.Native.Nat.{ℕ, zero, suc, _+_}
 use mathlib.Core.Path.{_≡_, refl, sym, ap, _∙_, subst}
-use mathlib.Core.Bool.{Bool, true, false, cond}
+use mathlib.Core.Bool.{Bool, true, false}
 use mathlib.Core.List.{List, [], _∷_, map}
 use native.Mathlib.Omega.{arith}
-use lib.Dec.{lit≤}
 use lib.ListN.{length}
-use Rattle.paper.specs.Sizes.{PDU-MAX, MESSAGE-MAX, LIST-MAX, PARTS, REPLY-MIN}
+use Rattle.paper.specs.Sizes.{PDU-MAX, MESSAGE-MAX, LIST-MAX, PARTS}
 use Rattle.paper.specs.Statuses.{OPENED, FULL}
 use Rattle.paper.specs.declared.Refusal.{Refusal}
 use Rattle.paper.specs.declared.Refusal.the-variants.{CutShort, NoCommand, IsSpoiled}
@@ -19,7 +18,7 @@ use Rattle.numbers.specs.Numbers.{little, valueOf, valueAt, widthOf}
 use Rattle.reading.specs.Reading.{namedFor, createRequest, dataFirst, closing, afterNumber, badLengthWidth, numbered, capabilities, badVersion, byVersion, charged, byCommand, readPdu}
 use Rattle.reading.specs.Said.{bytesAt}
 use Rattle.reading.specs.Garbled.{bringsBlock, wholeIn, carriesBy, carries}
-use Rattle.laying.specs.Laying.{createResponseBytes, closeBytes, capsResponseBytes}
+use Rattle.laying.specs.Laying.{createResponseBytes, closeBytes}
 use Rattle.listeners.specs.Listeners.{names, ended, noneEmpty, sameBytes, isOneOf, allNames, goodList, isListed}
 use Rattle.channel.specs.declared.Offer.the-variants.{First, More}
 use Rattle.channel.specs.declared.Decline.the-variants.{Full}
@@ -30,53 +29,38 @@ use Rattle.channel.specs.Stages.{added, tookFirst, took}
 use Rattle.channel.specs.Channel.{Create, Bring, Garbled, Closing, openedRecord, restaged, opening, stageAfter, partAfter, answerTo, landed, act}
 use Rattle.channel.specs.Answers.{numberOf, declineNumber}
 use Rattle.table.specs.Table.{emptyTable, holds, isFree, numberPlace, freePlace, recordAt, withRecord}
-use Rattle.connection.specs.States.{State, viewAt, view, roomAt, roomIn, wrote, save}
+use Rattle.connection.specs.States.{viewAt, view, roomAt, roomIn, wrote, save}
 use Rattle.client.specs.Events.{Event, Unreadable, Capabilities, Of, createAct, unread, eventOf, isOf}
 use Rattle.client.specs.Client.{finished, acted, readied, stepped}
 use Rattle.demands.specs.Trace.{consIf, keep, final, seen}
-use Rattle.demands.specs.Runs.{Entry, receives, Call, Told, eventIn, isEventOf, eventsOf, ownEvents, fullTable, asksRoom, eventMeetsFull}
+use Rattle.demands.specs.Runs.{Call, Told, eventIn, isEventOf, eventsOf, ownEvents, fullTable, asksRoom, eventMeetsFull}
 use Rattle.demands.specs.Joining.{Off, Gathering, Brings, NoMessage, StillToCome, Complete, gathered, startsWith, goesOn, joins, joinsIf, joinWith, joinAll, broughtBy, brought, once, handed}
 use Rattle.demands.specs.Telling.{whyNot, answered, stepSays, saysIf, handsUp, toldIf, tellsNone}
-use Rattle.demands.specs.Managers.{Manager, Reached, at-first, called, JustStarted, first-start, new-start, everyTold, tellsTo, Sight, atStart, sightNext, sightTold, readyTold, paperStart, shouldTell, nobodys, isNobodys, Roomy, strayUp, AllEmpty, Orders, Demand2Of, Demand3Of}
-use Rattle.demands.specs.Useless.{isNo, isMessage, isHeld, isFull, OnlyNo, refusesAll, Always, fixed, Beside, fresh, managerBy, right, With, warpNext, warpTold, warped, forget, always, respelled, noted, from-then, spoilsAfter, blankTold, storeless, firstOnly, recountTold, invents, doubleTold, twice, keptMemory, keptStand, keptNext, keeps, lostBy, disturbNext, disturbs, lastTold, replays, replayer, untilFull, neverDeclines, inventsLater, relevelTold, wrongLevel, keptOver, goesOnOver, forgetsNext, forgetsTold, forgets, HasNeither}
+use Rattle.demands.specs.Managers.{Manager, Reached, at-first, called, first-start, new-start, everyTold, tellsTo, Sight, atStart, sightNext, sightTold, readyTold, paperStart, shouldTell, nobodys, isNobodys, Roomy, strayUp, AllEmpty, Orders, Demand2Of, Demand3Of}
+use Rattle.demands.specs.Useless.{isNo, isMessage, isHeld, isFull, OnlyNo, refusesAll, Always, fixed, Beside, fresh, managerBy, right, warpNext, warpTold, warped, forget, always, respelled, noted, from-then, spoilsAfter, blankTold, storeless, firstOnly, recountTold, invents, doubleTold, twice, keptMemory, keptStand, keptNext, keeps, lostBy, disturbNext, disturbs, lastTold, replays, replayer, untilFull, neverDeclines, inventsLater, relevelTold, wrongLevel, keptOver, goesOnOver, forgetsNext, forgetsTold, forgets, roomNext, makesRoom, HasNeither}
+use Rattle.demands.specs.Examples.{call, PUMP, asks, hello, opens, closed, begins, brings, garbles}
 use Rattle.demands.proofs.Third.{own-map, pick, seen-pick, seen-map, marks, nobody-marks, tail, two-gives-three}
 use Rattle.demands.proofs.ByFlags.{runBy, finalBy, fullFrom, roomy-run, should-by, calls-by, told-by, comes-to, respoken, warped-by}
 
 -- ---- the runs
-
-call : Entry → Call
-unfolding REPLY-MIN zeros
-call a = record { asked = a; reply = zeros REPLY-MIN; enough = lit≤ tt }
-
-PUMP : List ℕ
-PUMP = 0x50 ∷ 0x55 ∷ 0x4D ∷ 0x50 ∷ 0 ∷ []
-
-asks : List ℕ → Call
-asks pdu = call (receives PUMP pdu)
-
-opens : ℕ → Call
-opens n = asks (0x10 ∷ n ∷ PUMP)
-
-hello : Call
-hello = asks (0x50 ∷ 0 ∷ 3 ∷ 0 ∷ 0 ∷ 0 ∷ 0 ∷ 0 ∷ 0 ∷ 0 ∷ 0 ∷ 0 ∷ [])
 
 -- a few calls on numbers 5 and 6
 short : List Call
 short =
     opens 5
     ∷ opens 6
-    ∷ asks (0x30 ∷ 5 ∷ 7 ∷ 8 ∷ [])
+    ∷ brings 5 (7 ∷ 8 ∷ [])
     ∷ asks (0x80 ∷ 5 ∷ [])
-    ∷ asks (0x20 ∷ 5 ∷ 3 ∷ 1 ∷ [])
-    ∷ asks (0x30 ∷ 6 ∷ 9 ∷ [])
-    ∷ asks (0x30 ∷ 5 ∷ 2 ∷ [])
-    ∷ asks (0x30 ∷ 5 ∷ 3 ∷ [])
-    ∷ asks (0x20 ∷ 5 ∷ 4 ∷ 1 ∷ [])
-    ∷ asks (0x40 ∷ 5 ∷ [])
+    ∷ begins 5 3 (1 ∷ [])
+    ∷ brings 6 (9 ∷ [])
+    ∷ brings 5 (2 ∷ [])
+    ∷ brings 5 (3 ∷ [])
+    ∷ begins 5 4 (1 ∷ [])
+    ∷ closed 5
     ∷ opens 5
-    ∷ asks (0x30 ∷ 5 ∷ 2 ∷ 3 ∷ 4 ∷ [])
-    ∷ asks (0x24 ∷ 5 ∷ 1 ∷ [])
-    ∷ asks (0x30 ∷ 5 ∷ 6 ∷ [])
+    ∷ brings 5 (2 ∷ 3 ∷ 4 ∷ [])
+    ∷ garbles 5
+    ∷ brings 5 (6 ∷ [])
     ∷ []
 
 short-events : List Event
@@ -103,7 +87,7 @@ many =
     opens 1 ∷ opens 2 ∷ opens 3 ∷ opens 4 ∷ opens 5 ∷ opens 6 ∷ opens 7 ∷ opens 8
     ∷ opens 9 ∷ opens 10 ∷ opens 11 ∷ opens 12 ∷ opens 13 ∷ opens 14 ∷ opens 15 ∷ opens 16
     ∷ opens 17
-    ∷ asks (0x30 ∷ 5 ∷ 7 ∷ 8 ∷ [])
+    ∷ brings 5 (7 ∷ 8 ∷ [])
     ∷ []
 
 opened-event : ℕ → Event
@@ -118,16 +102,16 @@ many-events =
     ∷ Of 5 (Bring More (7 ∷ 8 ∷ []))
     ∷ []
 
-hello-read : eventIn (hello .asked) ≡ Capabilities 3
+pub hello-read : eventIn (hello .asked) ≡ Capabilities 3
 unfolding hello asks PUMP call eventIn eventOf readPdu byCommand capabilities badVersion byVersion charged little valueOf valueAt PDU-MAX
 hello-read = refl
 
 short-read : eventsOf short ≡ short-events
-unfolding short short-events opens asks PUMP call eventIn eventOf unread carries carriesBy bringsBlock wholeIn createAct readPdu byCommand numbered badLengthWidth afterNumber closing dataFirst createRequest namedFor bytesAt little valueOf valueAt widthOf place names ended noneEmpty sameBytes isOneOf allNames goodList isListed PDU-MAX LIST-MAX
+unfolding short short-events opens closed begins brings garbles asks PUMP call eventIn eventOf unread carries carriesBy bringsBlock wholeIn createAct readPdu byCommand numbered badLengthWidth afterNumber closing dataFirst createRequest namedFor bytesAt little valueOf valueAt widthOf place names ended noneEmpty sameBytes isOneOf allNames goodList isListed PDU-MAX LIST-MAX
 short-read = refl
 
 many-read : eventsOf many ≡ many-events
-unfolding many many-events opened-event opens asks PUMP call eventIn eventOf unread carries carriesBy bringsBlock wholeIn createAct readPdu byCommand numbered badLengthWidth afterNumber closing dataFirst createRequest namedFor bytesAt little valueOf valueAt widthOf place names ended noneEmpty sameBytes isOneOf allNames goodList isListed PDU-MAX LIST-MAX
+unfolding many many-events opened-event opens brings asks PUMP call eventIn eventOf unread carries carriesBy bringsBlock wholeIn createAct readPdu byCommand numbered badLengthWidth afterNumber closing dataFirst createRequest namedFor bytesAt little valueOf valueAt widthOf place names ended noneEmpty sameBytes isOneOf allNames goodList isListed PDU-MAX LIST-MAX
 many-read = refl
 
 with-hello : (xs : List Call) (es : List Event) → eventsOf xs ≡ es → eventsOf (hello ∷ xs) ≡ Capabilities 3 ∷ es
@@ -258,12 +242,12 @@ abbrev weight-at : ℕ → List Brings → ℕ
 weight-at k bs = weight (brings-at k bs)
 
 -- an answer's number, and how many messages go up with it
-abbrev number-at : ℕ → List Told → ℕ
+abbrev pub number-at : ℕ → List Told → ℕ
 number-at k [] = 0
 number-at zero (t ∷ ts) = numberOf (t .answer)
 number-at (suc k) (t ∷ ts) = number-at k ts
 
-abbrev ups-at : ℕ → List Told → ℕ
+abbrev pub ups-at : ℕ → List Told → ℕ
 ups-at k [] = 0
 ups-at zero (t ∷ ts) = length (t .message)
 ups-at (suc k) (t ∷ ts) = ups-at k ts
@@ -369,7 +353,7 @@ pub fixed-not-3 : (t : Told) → Demand3Of (fixed t) → ⊥
 unfolding fixed
 fixed-not-3 t = always-not-3 (fixed t) (t .answer) (λ s c. refl)
 
--- ---- 3 to 15: the right manager with one thing made wrong, in the short run
+-- ---- 3 to 16: the right manager with one thing made wrong, in the short run
 
 flags-of :
     (xs : List Call) (es : List Event) → eventsOf xs ≡ es
@@ -525,16 +509,24 @@ never-declines-not-2 d =
     let z : _≡_ {A = ℕ} 0 2 = ap (number-at 17) (tells-right atStart (λ full. sightNext false) (λ full. sightTold false) d many many-events many-read ∙ many-run) in
     omega arith
 
+-- 16: so is it here
+pub makes-room-not-2 : Demand2Of makesRoom → ⊥
+unfolding makesRoom roomNext many-events opened-event many-told replies opened-told numberOf declineNumber sightNext sightTold toldIf saysIf joinsIf handsUp stepSays answered whyNot joins startsWith goesOn gathered MESSAGE-MAX
+makes-room-not-2 d =
+    let told = ap (runBy roomNext (λ full. sightTold false) atStart (Capabilities 3 ∷ many-events)) (sym many-flags) ∙ tells-right atStart roomNext (λ full. sightTold false) d many many-events many-read ∙ many-run in
+    let z : _≡_ {A = ℕ} 0 2 = ap (number-at 17) told in
+    omega arith
+
 -- ---- 14: it goes on over a new Start
 
 before : List Call
-before = hello ∷ opens 5 ∷ asks (0x20 ∷ 5 ∷ 4 ∷ 1 ∷ []) ∷ []
+before = hello ∷ opens 5 ∷ begins 5 4 (1 ∷ []) ∷ []
 
 before-events : List Event
 before-events = Capabilities 3 ∷ Of 5 (Create true 0) ∷ Of 5 (Bring (First 4) (1 ∷ [])) ∷ []
 
 before-read : eventsOf before ≡ before-events
-unfolding before before-events hello opens asks PUMP call eventIn eventOf unread carries carriesBy bringsBlock wholeIn createAct readPdu byCommand capabilities badVersion byVersion charged numbered badLengthWidth afterNumber dataFirst createRequest namedFor bytesAt little valueOf valueAt widthOf place names ended noneEmpty sameBytes isOneOf allNames goodList isListed PDU-MAX LIST-MAX
+unfolding before before-events hello opens begins asks PUMP call eventIn eventOf unread carries carriesBy bringsBlock wholeIn createAct readPdu byCommand capabilities badVersion byVersion charged numbered badLengthWidth afterNumber dataFirst createRequest namedFor bytesAt little valueOf valueAt widthOf place names ended noneEmpty sameBytes isOneOf allNames goodList isListed PDU-MAX LIST-MAX
 before-read = refl
 
 -- it stands in the middle of a message
@@ -555,13 +547,13 @@ in-the-middle =
 
 -- then a new Start, a Capabilities request, and a block
 behind : Call
-behind = asks (0x30 ∷ 5 ∷ 9 ∷ [])
+behind = brings 5 (9 ∷ [])
 
 then-events : List Event
 then-events = Capabilities 3 ∷ Of 5 (Bring More (9 ∷ [])) ∷ []
 
 then-read : eventsOf (hello ∷ behind ∷ []) ≡ then-events
-unfolding then-events behind hello asks PUMP call eventIn eventOf readPdu byCommand capabilities badVersion byVersion charged numbered badLengthWidth afterNumber bytesAt little valueOf valueAt widthOf PDU-MAX
+unfolding then-events behind hello brings asks PUMP call eventIn eventOf readPdu byCommand capabilities badVersion byVersion charged numbered badLengthWidth afterNumber bytesAt little valueOf valueAt widthOf PDU-MAX
 then-read = refl
 
 then-roomy : Roomy paperStart then-events

@@ -3,12 +3,12 @@ use Prim.Native.Nat.{ℕ, _^_, _≤_, _<_}
 use mathlib.Core.Path.{_≡_}
 use mathlib.Core.Logic.{_≢_}
 use mathlib.Core.Bool.{Bool, true, false}
-use mathlib.Core.List.{List, []}
+use mathlib.Core.List.{List}
 use lib.IntN.{ℤ}
 use lib.ListN.{length}
 use mir.Syntax.{w32}
 use mir.Val.{SFits}
-use Rattle.paper.specs.Sizes.{PARTS, PART, STORE, PDU-MAX, MESSAGE-MAX}
+use Rattle.paper.specs.Sizes.{PART, STORE, PDU-MAX, MESSAGE-MAX}
 use Rattle.lists.specs.Bytes.{zeros}
 use Rattle.numbers.specs.Numbers.{Bytes, NUMBERS, widthOf, codeFor, narrowest}
 use Rattle.reading.specs.declared.Charges.{Charges}

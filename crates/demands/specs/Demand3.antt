@@ -1,7 +1,7 @@
 -- Demand 3, sentence by sentence; and nothing twice, the fault that this product exists for.
 use Prim.Native.Nat.{ℕ}
 use mathlib.Core.Path.{_≡_}
-use mathlib.Core.Bool.{Bool, true, false}
+use mathlib.Core.Bool.{Bool, true}
 use mathlib.Core.List.{List, _∷_, _++_}
 use lib.ListN.{length}
 use Rattle.paper.specs.Sizes.{STORE}
@@ -9,10 +9,10 @@ use Rattle.channel.specs.Channel.{Act, Shut}
 use Rattle.connection.specs.States.{State, view}
 use Rattle.client.specs.Events.{Of, closeAct}
 use Rattle.client.specs.Client.{stepped}
-use Rattle.demands.specs.Runs.{Call, after, toldTo, ends, eventIn, isEventOf, ownEvents, eventMeetsFull}
-use Rattle.demands.specs.Runs.{fullFlags, JustReady, Running}
-use Rattle.demands.specs.Orders.{TwoOrders, NeverFull, SameEitherWay, SameButPlaces, SameForOne}
-use Rattle.demands.specs.Twice.{Anew, ToldAlone}
+use Rattle.demands.specs.Runs.{Call, after, ends, eventIn, isEventOf, eventMeetsFull}
+use Rattle.demands.specs.Runs.{JustReady, Running}
+use Rattle.demands.specs.Orders.{TwoOrders, NeverFull, SameEitherWay, SameButPlaces}
+use Rattle.demands.specs.Twice.{Anew, ToldAlone, NoTrace}
 use Rattle.demands.specs.Managers.{ours, Demand3Of}
 use Rattle.demands.specs.Useless.{isFull}
 
@@ -49,10 +49,6 @@ pub record EitherOrderIsTheSame : Type 0 where
       → SameButPlaces (ends st xs) (ends st ys)
   -- as a property of any manager: ours has it, from every Start on
   pub of-ours : (store : List ℕ) → length store ≡ STORE → Demand3Of (ours store)
-  -- the general form: the channel's own events and flags the same, all else arbitrary
-  pub strangers :
-      (l : ℕ) (st : State) → Running l st → (n : ℕ) (xs ys : List Call) → ownEvents n xs ≡ ownEvents n ys
-      → fullFlags n st xs ≡ fullFlags n st ys → SameForOne st xs ys n
 
 -- Nothing twice. From any run of a connection once ready, then a close of the channel (either kind) or a new Start
 -- on the used store with a new Capabilities request, then any further run: what the channel is told from there on
@@ -63,12 +59,7 @@ pub record NothingTwice : Type 0 where
       (st : State) → JustReady st → (before : List Call) (n : ℕ) (anew : State) → Anew n (ends st before) anew
       → (xs : List Call) → ToldAlone n anew xs
   -- two histories leave no trace
-  pub no-trace :
-      (n : ℕ)
-      → (st : State) → JustReady st → (before : List Call) (anew : State) → Anew n (ends st before) anew
-      → (st′ : State) → JustReady st′ → (before′ : List Call) (anew′ : State) → Anew n (ends st′ before′) anew′
-      → (xs ys : List Call) → ownEvents n xs ≡ ownEvents n ys → fullFlags n anew xs ≡ fullFlags n anew′ ys
-      → toldTo n anew xs ≡ toldTo n anew′ ys
+  pub no-trace : (n : ℕ) → NoTrace n
   -- a close shuts the channel, whatever it held
   pub a-close-shuts :
       (l : ℕ) (st : State) → Running l st → (c : Call) (n : ℕ) (local : Bool)

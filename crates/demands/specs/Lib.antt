@@ -15,3 +15,5 @@ pub mod Garbled
 pub mod Strict
 pub mod Counts
 pub mod Totals
+pub mod Examples
+pub mod Strangers

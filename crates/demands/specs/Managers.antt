@@ -17,10 +17,10 @@ use Rattle.channel.specs.declared.Answer.the-variants.{Ready, Refused}
 use Rattle.deciding.specs.Deciding.{tooSoon, levelFor}
 use Rattle.table.specs.Table.{emptyTable}
 use Rattle.connection.specs.States.{State, stateOf}
-use Rattle.client.specs.Events.{Event, Unreadable, Capabilities, Of}
+use Rattle.client.specs.Events.{Event, Unreadable, Capabilities, Of, isOf}
 use Rattle.channel.specs.Turns.{OUR-VERSION}
 use Rattle.client.specs.Client.{stepped}
-use Rattle.demands.specs.Trace.{seen, Never}
+use Rattle.demands.specs.Trace.{final, seen, Never}
 use Rattle.demands.specs.Runs.{Call, Told, after, told, eventIn, isEventOf, eventsOf, ownEvents, eventMeetsFull, startedOn}
 use Rattle.demands.specs.Joining.{Join, Off, joinsIf, joinAll, brought, once, handed}
 use Rattle.demands.specs.Orders.{TwoOrders}
@@ -100,11 +100,14 @@ sightTold full s (Of n a) = cond (s .ready) (toldIf full n (s .stand n) a) (tell
 unfoldable pub paperStart : State
 paperStart = stateOf emptyTable (zeros STORE)
 
+abbrev pub paperNext : State → Event → State
+paperNext p e = stepped p e .state
+
 -- call by call, from a state of the paper's and what the events so far made
 unfoldable pub shouldTell : State → Sight → List Event → List Told
 shouldTell p s [] = []
 shouldTell p s (e ∷ es) =
-    sightTold (eventMeetsFull p e) s e ∷ shouldTell (stepped p e .state) (sightNext (eventMeetsFull p e) s e) es
+    sightTold (eventMeetsFull p e) s e ∷ shouldTell (paperNext p e) (sightNext (eventMeetsFull p e) s e) es
 
 -- ---- demand 2: from every Start on, every call of every run is told so
 
@@ -125,7 +128,7 @@ isNobodys c = nobodys (eventIn (c .asked))
 
 -- no event of the run meets a full table, by the paper's steps
 abbrev pub Roomy : State → List Event → Type 0
-Roomy p es = Never (λ (q : State) (e : Event). stepped q e .state) eventMeetsFull p es
+Roomy p es = Never paperNext eventMeetsFull p es
 
 -- the channel gets the same in both orders, and its messages are those of the joining, each once
 pub record OrdersAlike {S : Type 0} (m : Manager S) (s : S) (xs ys : List Call) (n : ℕ) : Type 0 where
@@ -152,3 +155,21 @@ Demand3Of {S} m =
     → (xs ys : List Call) → TwoOrders xs ys
     → Roomy paperStart (eventsOf (c ∷ xs)) → Roomy paperStart (eventsOf (c ∷ ys))
     → Orders m (m .next s c) xs ys
+
+-- ---- strangers: from one ready state, two runs with the same events of one channel, each of which meets a full table in both or
+-- in neither
+
+-- where the paper's steps stand after calls from a Start
+abbrev pub paperAfter : List Call → State
+paperAfter before = final paperNext paperStart (eventsOf before)
+
+-- whether each of a channel's own events met a full table
+unfoldable pub flagsFor : ℕ → State → List Event → List Bool
+flagsFor n p es = seen paperNext (isOf n) eventMeetsFull p es
+
+unfoldable pub StrangersOf : {S : Type 0} → Manager S → Type 0
+StrangersOf {S} m =
+    (s : S) → JustStarted m s → (before : List Call) → paperAfter before .table .ready ≡ true
+    → (n : ℕ) (xs ys : List Call) → ownEvents n xs ≡ ownEvents n ys
+    → flagsFor n (paperAfter before) (eventsOf xs) ≡ flagsFor n (paperAfter before) (eventsOf ys)
+    → tellsTo m (final (m .next) s before) n xs ≡ tellsTo m (final (m .next) s before) n ys

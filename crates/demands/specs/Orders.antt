@@ -5,7 +5,7 @@ use mathlib.Core.List.{List, map}
 use Rattle.connection.specs.States.{State, view, FreePartsAreZero}
 use Rattle.steps.specs.States.{FreeRecordsAreBlank}
 use Rattle.demands.specs.Trace.{Never}
-use Rattle.demands.specs.Runs.{Call, after, toldTo, ends, ownEvents, meetsFull}
+use Rattle.demands.specs.Runs.{Call, after, toldTo, ownEvents, meetsFull}
 use Rattle.demands.specs.Joining.{Off, brought, joinAll, once, handed}
 
 -- "two orders of the same received PDUs and local closes that keep each channel's own events in order": for each
@@ -39,10 +39,3 @@ pub record SameButPlaces (a b : State) : Type 0 where
   pub records-b : FreeRecordsAreBlank b
   pub parts-a : FreePartsAreZero a
   pub parts-b : FreePartsAreZero b
-
--- strangers, the general form: two runs from one state, in which one channel's own events are the same and met a
--- full table alike; other channels are arbitrary
-pub record SameForOne (st : State) (xs ys : List Call) (n : ℕ) : Type 0 where
-  pub same-told : toldTo n st xs ≡ toldTo n st ys
-  -- the same record, its count too, and the same part
-  pub same-left : view n (ends st xs) ≡ view n (ends st ys)

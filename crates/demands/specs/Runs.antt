@@ -4,7 +4,7 @@ use Prim.Native.Nat.{ℕ, _≤_}
 use mathlib.Core.Path.{_≡_}
 use mathlib.Core.Bool.{Bool, true, false, not, _&&_}
 use mathlib.Core.List.{List, [], _∷_, map}
-use lib.Dec.{eqb, ltb}
+use lib.Dec.{ltb}
 use lib.ListN.{length, take}
 use Rattle.paper.specs.Sizes.{PARTS, STORE, REPLY-MIN}
 use Rattle.reading.specs.Reading.{readPdu}
@@ -36,9 +36,13 @@ unfoldable pub gives : State → Entry → List ℕ → Whole
 gives st (receives list pdu) reply = received (st .table) (st .store) list pdu reply
 gives st (closes n) reply = locallyClosed (st .table) (st .store) n reply
 
+-- the state that it leaves: its table with its store
+abbrev pub leaves : Whole → State
+leaves w = stateOf (w .result .table) (w .store)
+
 -- the state afterwards
 unfoldable pub after : State → Call → State
-after st c = stateOf (gives st (c .asked) (c .reply) .result .table) (gives st (c .asked) (c .reply) .store)
+after st c = leaves (gives st (c .asked) (c .reply))
 
 -- "A handed-up message of n bytes is the first n bytes of that part."
 unfoldable pub firstOf : View → ℕ → List (List ℕ)

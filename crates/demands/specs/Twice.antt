@@ -22,3 +22,11 @@ pub data Anew (n : ℕ) (st : State) : State → Type 0 where
 pub record ToldAlone (n : ℕ) (st : State) (xs : List Call) : Type 0 where
   pub is-told : toldTo n st xs ≡ toldWith Off (ownEvents n xs) (fullFlags n st xs)
   pub brings : map brought (toldTo n st xs) ≡ joinWith Off (ownEvents n xs) (fullFlags n st xs)
+
+-- two histories leave no trace
+abbrev pub NoTrace : ℕ → Type 0
+NoTrace n =
+    (st : State) → JustReady st → (before : List Call) (anew : State) → Anew n (ends st before) anew
+    → (st′ : State) → JustReady st′ → (before′ : List Call) (anew′ : State) → Anew n (ends st′ before′) anew′
+    → (xs ys : List Call) → ownEvents n xs ≡ ownEvents n ys → fullFlags n anew xs ≡ fullFlags n anew′ ys
+    → toldTo n anew xs ≡ toldTo n anew′ ys

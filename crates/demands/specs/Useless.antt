@@ -1,5 +1,5 @@
--- Managers that nobody would want, as values of the record: the paper's five, three more (6 to 8), and seven that are
--- wrong only at times (9 to 15). All but the first two are a manager that has both demands, `right`, with one thing
+-- Managers that nobody would want, as values of the record: the paper's five, three more (6 to 8), and eight that are
+-- wrong only at times (9 to 16). All but the first two are a manager that has both demands, `right`, with one thing
 -- made wrong.
 use Prim.Native.Nat.{ℕ}
 use mathlib.Core.Path.{_≡_}
@@ -21,7 +21,7 @@ use Rattle.demands.specs.Runs.{Call, Told, eventIn, eventMeetsFull}
 use Rattle.demands.specs.Joining.{Join, Off, Waiting, Gathering, Dead}
 use Rattle.demands.specs.Telling.{tellsNone}
 use Rattle.demands.specs.Managers.{Manager, Stand, put, allOff, Sight, atStart, sightNext, sightTold}
-use Rattle.demands.specs.Managers.{paperStart, Demand2Of, Demand3Of}
+use Rattle.demands.specs.Managers.{paperStart, Demand2Of, Demand3Of, StrangersOf}
 
 -- ---- answers by their kind
 
@@ -352,6 +352,17 @@ forgetsTold full s e = sightTold full s (asTheBaseDid e)
 unfoldable pub forgets : Manager (Beside Sight)
 forgets = managerBy atStart forgetsNext forgetsTold
 
+-- ---- 16: it makes room: a Create that meets a full table is opened, and every other channel is dropped for it
+
+unfoldable pub roomNext : Bool → Sight → Event → Sight
+roomNext full s (Unreadable why) = sightNext false s (Unreadable why)
+roomNext full s (Capabilities version) = sightNext false s (Capabilities version)
+roomNext full s (Of n a) =
+    cond full (record { ready = true; stand = put n Waiting allOff }) (sightNext false s (Of n a))
+
+unfoldable pub makesRoom : Manager (Beside Sight)
+makesRoom = managerBy atStart roomNext (λ full. sightTold false)
+
 -- ---- none has demand 2, and none demand 3 but for those that are wrong only after a full table or in the level,
 -- which demand 3 doesn't see: it supposes no full table, and begins behind the Capabilities request
 
@@ -360,6 +371,10 @@ HasNeither m = (Demand2Of m → ⊥) × (Demand3Of m → ⊥)
 
 abbrev pub Only3 : {S : Type 0} → Manager S → Type 0
 Only3 m = (Demand2Of m → ⊥) × Demand3Of m
+
+-- of these, the ones in which a stranger changes what a channel is told, once a table is full
+abbrev pub ByStrangers : {S : Type 0} → Manager S → Type 0
+ByStrangers m = Only3 m × (StrangersOf m → ⊥)
 
 pub record UselessManagersHaveThemNot : Type 1 where
   -- the paper's five
@@ -377,8 +392,9 @@ pub record UselessManagersHaveThemNot : Type 1 where
   pub invents-its-count-later : (count : ℕ) → HasNeither (inventsLater count)
   pub goes-on-over-a-new-start : HasNeither goesOnOver
   pub forgets-a-garbled-block : HasNeither forgets
-  pub right-until-full : Only3 untilFull
+  pub right-until-full : ByStrangers untilFull
+  pub makes-room-by-dropping-others : ByStrangers makesRoom
   pub never-declines-for-full : Only3 neverDeclines
   pub answers-a-wrong-level : Only3 wrongLevel
-  -- and the manager that 3 to 15 are made from has both
-  pub without-the-fault : Demand2Of right × Demand3Of right
+  -- and the manager that 3 to 16 are made from has all
+  pub without-the-fault : Demand2Of right × Demand3Of right × StrangersOf right
