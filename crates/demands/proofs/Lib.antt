@@ -15,7 +15,7 @@ pub mod Strict
 pub mod Third
 pub mod ByFlags
 pub mod Useless
-pub mod Neighbours
+pub mod Examples
 pub mod Unseen
 pub mod Starred
 pub mod Ready

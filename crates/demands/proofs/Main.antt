@@ -36,7 +36,7 @@ use Rattle.steps.proofs.Garbled as blocks
 use Rattle.demands.proofs.Orders as orders
 use Rattle.demands.proofs.Twice as twice
 use Rattle.demands.proofs.Strangers as strangers
-use Rattle.demands.proofs.Neighbours as neighbours
+use Rattle.demands.proofs.Examples as examples
 use Rattle.demands.proofs.Sanity as sanity
 use Rattle.demands.proofs.Cut as cut
 use Rattle.demands.proofs.Ready as ready
@@ -188,8 +188,11 @@ either-order-is-the-same =
 
 -- ======== Beside them: strangers' channels
 
--- "All other channels' events may differ in number and bytes, and the table may fill. Then that channel's answers, replies,
--- messages, record and stored bytes are the same in both."
+-- "Take two runs of the panel end from one ready state with its store, reached from Start by calls, with the same list,
+-- proper buffers and nobody else writing the store between calls, and one channel number. Let its own events be the same in
+-- both, with each of its Create requests that is listed and not already open meeting a full table in both runs or in
+-- neither. All other channels' events may differ in number and bytes, and the table may fill. Then that channel's answers,
+-- replies, messages, record and stored bytes are the same in both." And more than that: `whatever-the-lists`
 pub strangers-channels : StrangersChannels
 strangers-channels =
     record {
@@ -199,8 +202,8 @@ strangers-channels =
       only-full = strangers.only-full;
       all-full = strangers.all-full;
       still-reached = strangers.still-reached;
-      for-example = neighbours.beside-few-or-many;
-      the-full-table-matters = neighbours.alone-or-behind-sixteen;
+      for-example = examples.beside-few-or-many;
+      the-full-table-matters = examples.alone-or-behind-sixteen;
       whatever-the-lists = strangers.strangers;
       of-ours = third.ours-strangers;
     }
@@ -283,8 +286,8 @@ useless-managers-have-them-not =
       invents-its-count-later = λ count. useless.neither _ (useless.invents-later-not-3 count);
       goes-on-over-a-new-start = useless.neither _ useless.goes-on-not-3;
       forgets-a-garbled-block = useless.neither _ useless.forgets-not-3;
-      right-until-full = ((useless.until-full-not-2, unseen.until-full-3), neighbours.until-full-not);
-      makes-room-by-dropping-others = ((useless.makes-room-not-2, unseen.makes-room-3), neighbours.makes-room-not);
+      right-until-full = ((useless.until-full-not-2, unseen.until-full-3), examples.until-full-not);
+      makes-room-by-dropping-others = ((useless.makes-room-not-2, unseen.makes-room-3), examples.makes-room-not);
       never-declines-for-full = (useless.never-declines-not-2, unseen.never-declines-3);
       answers-a-wrong-level = (useless.wrong-level-not-2, unseen.wrong-level-3);
       without-the-fault = (

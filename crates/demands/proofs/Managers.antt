@@ -34,7 +34,7 @@ use Rattle.demands.specs.Trace.{seen}
 use Rattle.demands.specs.Runs.{Call, gives, after, told, handedUp, eventIn, eventsOf, eventMeetsFull, startedOn, Running}
 use Rattle.demands.specs.Joining.{Join, joinsIf}
 use Rattle.demands.specs.Telling.{toldIf, tellsNone}
-use Rattle.demands.specs.Managers.{ours, Reached, at-first, called, restarted, first-start, new-start, everyTold, put, Sight, atStart, sightNext, readyTold, sightTold, paperStart, shouldTell, Demand2Of}
+use Rattle.demands.specs.Managers.{ours, ReachedBy, at-first, called, restarted, first-start, new-start, everyTold, put, Sight, atStart, sightNext, readyTold, sightTold, paperStart, shouldTell, Demand2Of}
 use Rattle.demands.proofs.Machine.{roomFlag, toldBy, same-told, call-step, call-state, fine-call, own-told, ruled-flag}
 use Rattle.demands.proofs.Joined.{joinOf, sane-view, FineBlock, call-blocks}
 use Rattle.demands.proofs.Telling.{act-both, act-told}
@@ -209,7 +209,7 @@ our-run st s g (c ∷ xs) =
 -- ---- from every Start on
 
 -- calls and Starts keep the store's size
-reached-calm : (store : List ℕ) → length store ≡ STORE → (st : State) → Reached (ours store) st → Calm st
+reached-calm : (store : List ℕ) → length store ≡ STORE → (st : State) → ReachedBy (ours store) st → Calm st
 unfolding ours
 reached-calm store size st at-first = calm-started store size
 reached-calm store size st (called {s = s} c r) = calm-call s (reached-calm store size s r) c

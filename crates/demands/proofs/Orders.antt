@@ -24,11 +24,13 @@ use Rattle.connection.proofs.Views.{view-shut}
 use Rattle.steps.specs.States.{FineEvent, Calm}
 use Rattle.steps.proofs.Calm.{calm-start, calm-step}
 use Rattle.demands.specs.Trace.{consIf, keep, seen}
-use Rattle.demands.specs.Runs.{receives, Call, after, toldTo, ends, eventIn, isEventOf, ownEvents, meetsFull, fullFlags, startedOn, JustReady, Running}
+use Rattle.demands.specs.Runs.{receives, Call, after, toldTo, ends, eventIn, isEventOf, ownEvents, meetsFull}
+use Rattle.demands.specs.Runs.{fullFlags, startedOn, JustReady, Running}
 use Rattle.demands.specs.Joining.{Off, brought, handed}
 use Rattle.demands.specs.Telling.{toldWith}
 use Rattle.demands.specs.Orders.{TwoOrders, NeverFull, SameEitherWay, SameButPlaces}
-use Rattle.demands.proofs.Traces.{Input, withFlag, eventsIn, flagsIn, trace-inv, trace-final, trace-outs, inputs-events, inputs-flags, never-seen}
+use Rattle.demands.proofs.Traces.{Input, withFlag, eventsIn, flagsIn, trace-inv, trace-final, trace-outs}
+use Rattle.demands.proofs.Traces.{inputs-events, inputs-flags, never-seen}
 use Rattle.demands.proofs.Totals.{same-channels}
 use Rattle.demands.proofs.Machine.{readCall, framed, not-bad, call-state, fine-call}
 use Rattle.demands.proofs.Joined.{AllFine, joinOf, sane-view, call-blocks}
@@ -175,7 +177,16 @@ module _ (l l′ : ℕ) (st st′ : State) (g : Running l st) (g′ : Running l�
   pub same-left : l ≡ l′ → view n st ≡ view n st′ → view n (ends st xs) ≡ view n (ends st′ ys)
   same-left p v = left-with l st g n xs ∙ rw (p, v, e, f) (sym (left-with l′ st′ g′ n ys))
 
--- ---- demand 3
+-- from one state: strangers
+module _ (l : ℕ) (st : State) (g : Running l st) (n : ℕ) (xs ys : List Call) (e : ownEvents n xs ≡ ownEvents n ys)
+    (f : fullFlags n st xs ≡ fullFlags n st ys) where
+  pub strangers-told : toldTo n st xs ≡ toldTo n st ys
+  strangers-told = same-told l l st st g g n xs ys e f refl
+
+  pub strangers-left : view n (ends st xs) ≡ view n (ends st ys)
+  strangers-left = same-left l l st st g g n xs ys e f refl refl
+
+-- ---- demand 3: strangers that meet no full table
 
 -- where neither order meets a full table the flags are the same
 same-flags :
@@ -196,9 +207,8 @@ module _ (st : State) (j : JustReady st) (xs ys : List Call) (o : TwoOrders xs y
   same-either-way n =
       let b = fresh st j in
       let told = told-roomy (b .level) st (b .running) n xs (b .shut n) f in
-      let flags = same-flags n st xs ys (o n) f h in
       record {
-        same-told = same-told (b .level) (b .level) st st (b .running) (b .running) n xs ys (o n) flags refl;
+        same-told = strangers-told (b .level) st (b .running) n xs ys (o n) (same-flags n st xs ys (o n) f h);
         joined = ap (map brought) told ∙ with-brings Off (ownEvents n xs) [];
         each-once = ap (map handed) told ∙ with-once Off (ownEvents n xs) [];
       }
@@ -206,7 +216,7 @@ module _ (st : State) (j : JustReady st) (xs ys : List Call) (o : TwoOrders xs y
   both-left : (n : ℕ) → view n (ends st xs) ≡ view n (ends st ys)
   both-left n =
       let b = fresh st j in
-      same-left (b .level) (b .level) st st (b .running) (b .running) n xs ys (o n) (same-flags n st xs ys (o n) f h) refl refl
+      strangers-left (b .level) st (b .running) n xs ys (o n) (same-flags n st xs ys (o n) f h)
 
   pub same-but-places : SameButPlaces (ends st xs) (ends st ys)
   same-but-places =

@@ -19,7 +19,8 @@ use Rattle.reading.specs.Garbled.{carries}
 use Rattle.reading.specs.declared.Carried.{Carried}
 use Rattle.reading.specs.declared.Carried.the-variants.{NoNumber, Number}
 use Rattle.reading.specs.declared.Pdu.{Pdu}
-use Rattle.reading.specs.declared.Pdu.the-variants.{CreateRequest, CreateResponse, DataFirst, Data, Close, CapsRequest, CapsResponse, Refused}
+use Rattle.reading.specs.declared.Pdu.the-variants.{CreateRequest, CreateResponse, DataFirst, Data, Close, CapsRequest}
+use Rattle.reading.specs.declared.Pdu.the-variants.{CapsResponse, Refused}
 use Rattle.channel.specs.declared.Record.{Record}
 use Rattle.channel.specs.declared.Offer.the-variants.{First, More}
 use Rattle.channel.specs.Channel.{blank, Act, BadCreate, Create, Bring, Garbled, Closing, LocalClose, View, Shut, Open}
@@ -35,10 +36,14 @@ use Rattle.steps.specs.Rows.{isOpen}
 use Rattle.steps.specs.States.{Sane, Calm}
 use Rattle.steps.proofs.Garbled.{whole-is-own}
 use Rattle.demands.specs.Trace.{consIf, keep}
-use Rattle.demands.specs.Runs.{Entry, receives, closes, Call, gives, leaves, after, Told, ends, eventIn, isEventOf, ownEvents, fullTable, asksRoom, eventMeetsFull, meetsFull, Running}
-use Rattle.demands.specs.Strangers.{Reached, by-start, by-receive, by-local-close, Lends, WithList, Happening, pdu-received, closed-locally, happening, ownHappenings, OwnEvent, a-create-request, a-data-first, a-data, a-close, its-number-whole, a-local-close, MeetsFullTable, a-listed-create, TwoRuns, FullInBothOrNeither, recordOf, partOf, SameInBoth}
+use Rattle.demands.specs.Runs.{Entry, receives, closes, Call, gives, leaves, after, Told, ends, eventIn, isEventOf}
+use Rattle.demands.specs.Runs.{ownEvents, fullTable, asksRoom, eventMeetsFull, meetsFull, Running}
+use Rattle.demands.specs.Strangers.{Reached, by-start, by-receive, by-local-close, Lends, WithList, Happening}
+use Rattle.demands.specs.Strangers.{pdu-received, closed-locally, happening, ownHappenings, OwnEvent, a-create-request}
+use Rattle.demands.specs.Strangers.{a-data-first, a-data, a-close, its-number-whole, a-local-close, MeetsFullTable}
+use Rattle.demands.specs.Strangers.{a-listed-create, TwoRuns, FullInBothOrNeither, recordOf, partOf, SameInBoth}
 use Rattle.demands.proofs.Machine.{readCall}
-use Rattle.demands.proofs.Orders.{calm-call, calm-started, same-told, same-left}
+use Rattle.demands.proofs.Orders.{calm-call, calm-started, strangers-told, strangers-left}
 
 -- ---- a state that calls reach
 
@@ -82,8 +87,8 @@ pub strangers :
     (l : ℕ) (st : State) → Running l st → (n : ℕ) (xs ys : List Call) → ownEvents n xs ≡ ownEvents n ys
     → FullInBothOrNeither n st xs ys → SameInBoth n st xs ys
 strangers l st g n xs ys e f =
-    let told = same-told l l st st g g n xs ys e f refl in
-    let left = same-left l l st st g g n xs ys e f refl refl in
+    let told = strangers-told l st g n xs ys e f in
+    let left = strangers-left l st g n xs ys e f in
     record {
       answers = ap (map (λ (t : Told). t .answer)) told;
       replies = ap (map (λ (t : Told). t .reply)) told;

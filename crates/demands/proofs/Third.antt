@@ -17,7 +17,9 @@ use Rattle.demands.specs.Runs.{Call, Told, eventIn, isEventOf, eventsOf,
 use Rattle.demands.specs.Joining.{Off, joinsIf, brought, handed}
 use Rattle.demands.specs.Telling.{toldIf, toldWith}
 use Rattle.demands.specs.Orders.{TwoOrders}
-use Rattle.demands.specs.Managers.{Manager, ours, JustStarted, everyTold, tellsTo, put, Sight, atStart, sightNext, sightTold, paperStart, paperNext, shouldTell, flagsFor, nobodys, isNobodys, Roomy, strayUp, AllEmpty, Orders, Demand2Of, Demand3Of, paperAfter, StrangersOf}
+use Rattle.demands.specs.Managers.{Manager, ours, JustStarted, everyTold, tellsTo, put, Sight, atStart, sightNext}
+use Rattle.demands.specs.Managers.{sightTold, paperStart, paperNext, shouldTell, flagsFor, nobodys, isNobodys, Roomy}
+use Rattle.demands.specs.Managers.{strayUp, AllEmpty, Orders, Demand2Of, Demand3Of, paperAfter, StrangersOf}
 use Rattle.demands.proofs.Machine.{readCall, fine-call}
 use Rattle.demands.proofs.Joined.{call-blocks}
 use Rattle.demands.proofs.Telling.{with-brings, with-once, unflagged}

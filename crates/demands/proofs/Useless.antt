@@ -36,9 +36,9 @@ use Rattle.demands.specs.Trace.{consIf, keep, final, seen}
 use Rattle.demands.specs.Runs.{Call, Told, eventIn, isEventOf, eventsOf, ownEvents, fullTable, asksRoom, eventMeetsFull}
 use Rattle.demands.specs.Joining.{Off, Gathering, Brings, NoMessage, StillToCome, Complete, gathered, startsWith, goesOn, joins, joinsIf, joinWith, joinAll, broughtBy, brought, once, handed}
 use Rattle.demands.specs.Telling.{whyNot, answered, stepSays, saysIf, handsUp, toldIf, tellsNone}
-use Rattle.demands.specs.Managers.{Manager, Reached, at-first, called, first-start, new-start, everyTold, tellsTo, Sight, atStart, sightNext, sightTold, readyTold, paperStart, shouldTell, nobodys, isNobodys, Roomy, strayUp, AllEmpty, Orders, Demand2Of, Demand3Of}
+use Rattle.demands.specs.Managers.{Manager, ReachedBy, at-first, called, first-start, new-start, everyTold, tellsTo, Sight, atStart, sightNext, sightTold, readyTold, paperStart, shouldTell, nobodys, isNobodys, Roomy, strayUp, AllEmpty, Orders, Demand2Of, Demand3Of}
 use Rattle.demands.specs.Useless.{isNo, isMessage, isHeld, isFull, OnlyNo, refusesAll, Always, fixed, Beside, fresh, managerBy, right, warpNext, warpTold, warped, forget, always, respelled, noted, from-then, spoilsAfter, blankTold, storeless, firstOnly, recountTold, invents, doubleTold, twice, keptMemory, keptStand, keptNext, keeps, lostBy, disturbNext, disturbs, lastTold, replays, replayer, untilFull, neverDeclines, inventsLater, relevelTold, wrongLevel, keptOver, goesOnOver, forgetsNext, forgetsTold, forgets, roomNext, makesRoom, HasNeither}
-use Rattle.demands.specs.Examples.{call, PUMP, asks, hello, opens, closed, begins, brings, garbles}
+use Rattle.demands.specs.Examples.{call, PUMP, asks, hello, opens, closed, begins, brings, garbles, replies, hands}
 use Rattle.demands.proofs.Third.{own-map, pick, seen-pick, seen-map, marks, nobody-marks, tail, two-gives-three}
 use Rattle.demands.proofs.ByFlags.{runBy, finalBy, fullFrom, roomy-run, should-by, calls-by, told-by, comes-to, respoken, warped-by}
 
@@ -130,12 +130,6 @@ unfolding many-events opened-event paperStart readied stepped acted finished sav
 many-flags = refl
 
 -- ---- what should be told in them
-
-replies : Answer → List ℕ → Told
-replies a bytes = record { answer = a; reply = bytes; message = [] }
-
-hands : ℕ → List ℕ → Told
-hands n message = record { answer = Message n (length message); reply = []; message = message ∷ [] }
 
 opened-told : ℕ → Told
 opened-told n = replies (Opened n) (createResponseBytes n OPENED)
@@ -563,11 +557,11 @@ then-roomy = (refl, (refl, tt))
 then-roomy-calls : Roomy paperStart (eventsOf (hello ∷ behind ∷ []))
 then-roomy-calls = subst (λ (es : List Event). Roomy paperStart es) (sym then-read) then-roomy
 
-reached-run : {S : Type 0} (m : Manager S) (s : S) → Reached m s → (xs : List Call) → Reached m (final (m .next) s xs)
+reached-run : {S : Type 0} (m : Manager S) (s : S) → ReachedBy m s → (xs : List Call) → ReachedBy m (final (m .next) s xs)
 reached-run m s r [] = r
 reached-run m s r (c ∷ xs) = reached-run m (m .next s c) (called c r) xs
 
-was-reached : Reached goesOnOver at-the-end
+was-reached : ReachedBy goesOnOver at-the-end
 unfolding goesOnOver at-the-end
 was-reached = reached-run goesOnOver (right .begin) at-first before
 

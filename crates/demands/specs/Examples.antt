@@ -2,14 +2,18 @@
 use Prim.Native.Nat.{ℕ}
 use mathlib.Core.List.{List, [], _∷_}
 use lib.Dec.{lit≤}
+use lib.ListN.{length}
 use Rattle.paper.specs.Sizes.{STORE, REPLY-MIN}
+use Rattle.paper.specs.Statuses.{OPENED}
 use Rattle.lists.specs.Bytes.{zeros}
+use Rattle.laying.specs.Laying.{createResponseBytes, closeBytes}
 use Rattle.paper.specs.declared.Refusal.the-variants.{CutShort, IsSpoiled}
 use Rattle.channel.specs.declared.Concern.the-variants.{NoChannel, Channel}
 use Rattle.channel.specs.declared.Answer.{Answer}
 use Rattle.channel.specs.declared.Answer.the-variants.{Opened, Held, Message, Closed, Refused}
 use Rattle.connection.specs.States.{State}
-use Rattle.demands.specs.Runs.{Entry, receives, closes, Call, after, startedOn}
+use Rattle.demands.specs.Runs.{Entry, receives, closes, Call, after, Told, startedOn}
+use Rattle.demands.specs.Telling.{tellsNone}
 
 unfoldable pub call : Entry → Call
 unfolding REPLY-MIN zeros
@@ -46,6 +50,13 @@ brings n block = asks (0x30 ∷ n ∷ block)
 -- a garbled block: a Data First that ends inside its Length
 unfoldable pub garbles : ℕ → Call
 garbles n = asks (0x24 ∷ n ∷ 1 ∷ [])
+
+-- what is told: an answer with a reply, or a message
+unfoldable pub replies : Answer → List ℕ → Told
+replies a bytes = record { answer = a; reply = bytes; message = [] }
+
+unfoldable pub hands : ℕ → List ℕ → Told
+hands n message = record { answer = Message n (length message); reply = []; message = message ∷ [] }
 
 -- a connection just made ready
 unfoldable pub justReady : State
@@ -95,13 +106,17 @@ besideMany =
     ∷ []
 
 -- what 5 is told in both
-unfoldable pub answersToFive : List Answer
-answersToFive =
-    Opened 5 ∷ Held 5 2 ∷ Message 5 3 ∷ Refused CutShort NoChannel ∷ Refused IsSpoiled (Channel 5)
-    ∷ Closed 5 ∷ Opened 5 ∷ Message 5 2 ∷ []
-
-unfoldable pub messagesToFive : List (List (List ℕ))
-messagesToFive = [] ∷ [] ∷ ((1 ∷ 2 ∷ 3 ∷ []) ∷ []) ∷ [] ∷ [] ∷ [] ∷ [] ∷ ((7 ∷ 8 ∷ []) ∷ []) ∷ []
+unfoldable pub toldToFive : List Told
+toldToFive =
+    replies (Opened 5) (createResponseBytes 5 OPENED)
+    ∷ tellsNone (Held 5 2)
+    ∷ hands 5 (1 ∷ 2 ∷ 3 ∷ [])
+    ∷ tellsNone (Refused CutShort NoChannel)
+    ∷ tellsNone (Refused IsSpoiled (Channel 5))
+    ∷ replies (Closed 5) (closeBytes 5)
+    ∷ replies (Opened 5) (createResponseBytes 5 OPENED)
+    ∷ hands 5 (7 ∷ 8 ∷ [])
+    ∷ []
 
 -- ---- channel 5 alone, or behind sixteen
 

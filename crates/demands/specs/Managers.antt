@@ -42,15 +42,15 @@ unfoldable pub ours : List ℕ → Manager State
 ours store = record { begin = startedOn store; again = λ st. startedOn (st .store); next = after; tells = told }
 
 -- a state that calls and new Starts reach
-pub data Reached {S : Type 0} (m : Manager S) : S → Type 0 where
-  at-first : Reached m (m .begin)
-  called : {s : S} (c : Call) → Reached m s → Reached m (m .next s c)
-  restarted : {s : S} → Reached m s → Reached m (m .again s)
+pub data ReachedBy {S : Type 0} (m : Manager S) : S → Type 0 where
+  at-first : ReachedBy m (m .begin)
+  called : {s : S} (c : Call) → ReachedBy m s → ReachedBy m (m .next s c)
+  restarted : {s : S} → ReachedBy m s → ReachedBy m (m .again s)
 
 -- a state that a Start left: the first, or a new one after any calls
 pub data JustStarted {S : Type 0} (m : Manager S) : S → Type 0 where
   first-start : JustStarted m (m .begin)
-  new-start : {s : S} → Reached m s → JustStarted m (m .again s)
+  new-start : {s : S} → ReachedBy m s → JustStarted m (m .again s)
 
 -- what it tells from a state on, call by call
 unfoldable pub everyTold : {S : Type 0} → Manager S → S → List Call → List Told

@@ -31,7 +31,7 @@ use Rattle.demands.specs.Runs.{Entry, receives, closes, Call, leaves, To
 use Rattle.demands.specs.Runs.{meetsFull, fullFlags, startedOn, Running}
 use Rattle.demands.specs.Orders.{NeverFull}
 use Rattle.demands.specs.Managers.{ours, StrangersOf}
-use Rattle.demands.specs.Examples.{PUMP, justReady, besideFew, besideMany, answersToFive, messagesToFive}
+use Rattle.demands.specs.Examples.{PUMP, justReady, besideFew, besideMany, toldToFive}
 use Rattle.demands.specs.Examples.{alone, behindSixteen}
 
 -- ---- "one ready state with its store, reached from Start by calls"
@@ -154,10 +154,8 @@ pub record BesideFewOrMany : Type 0 where
   pub never-fills : NeverFull justReady besideFew
   pub fills : answersTo 17 justReady besideMany ≡ Declined 17 Full ∷ Opened 17 ∷ Message 17 1 ∷ []
   -- what 5 is told
-  pub answers-beside-few : answersTo 5 justReady besideFew ≡ answersToFive
-  pub answers-beside-many : answersTo 5 justReady besideMany ≡ answersToFive
-  pub messages-beside-few : messagesTo 5 justReady besideFew ≡ messagesToFive
-  pub messages-beside-many : messagesTo 5 justReady besideMany ≡ messagesToFive
+  pub beside-few : toldTo 5 justReady besideFew ≡ toldToFive
+  pub beside-many : toldTo 5 justReady besideMany ≡ toldToFive
 
 -- two runs that meet all but the one on the full table: 5 is answered otherwise
 pub record AloneOrBehindSixteen : Type 0 where
