@@ -1,4 +1,5 @@
--- A manager that has demand 2 has demand 3: what it tells one channel is what it should tell, at that channel's calls.
+-- A manager that has demand 2 has demand 3, and minds no stranger: what it tells one channel is what that channel's own events give,
+-- each with whether it met a full table.
 -- Assumes nothing.
 use Prim.Native.Nat.{ℕ}
 use mathlib.Core.Path.{_≡_, refl, sym, ap, _∙_}
@@ -196,7 +197,7 @@ two-gives-three m d s j c version caps xs ys o f h = orders m s c (two-once-read
 pub ours-demand-3 : (store : List ℕ) → length store ≡ STORE → Demand3Of (ours store)
 ours-demand-3 store size = two-gives-three (ours store) (ours-demand-2 store size)
 
--- ---- and strangers
+-- ---- demand 2 gives strangers
 
 -- a manager that is right from a state on, beside the paper's steps
 record Right {S : Type 0} (m : Manager S) (s : S) (p : State) : Type 0 where

@@ -1,7 +1,7 @@
--- Demands 2 and 3 as properties of any manager: a record of functions on values, with states of any type. They are
--- stated on what the host is told alone: answers, replies and messages. What a call should be told is said by the
--- events alone: whether a Capabilities request came, where each number's joining stands, and whether the paper's
--- own steps on the events before it met a full table. No table, no record and no store of the manager's is looked
+-- Demands 2 and 3, and strangers' channels, as properties of any manager: a record of functions on values, with states
+-- of any type. They are stated on what the host is told alone: answers, replies and messages. What a call should be told
+-- is said by the events alone: whether a Capabilities request came, where each number's joining stands, and whether the
+-- paper's own steps on the events before it met a full table. No table, no record and no store of the manager's is looked
 -- at.
 use Prim.Native.Nat.{ℕ}
 use mathlib.Core.Path.{_≡_}
@@ -156,8 +156,8 @@ Demand3Of {S} m =
     → Roomy paperStart (eventsOf (c ∷ xs)) → Roomy paperStart (eventsOf (c ∷ ys))
     → Orders m (m .next s c) xs ys
 
--- ---- strangers: from one ready state, two runs with the same events of one channel, each of which meets a full table in both or
--- in neither
+-- ---- strangers: from one ready state, reached from a Start by calls, two runs with the same events of one channel, each of which
+-- meets a full table in both or in neither
 
 -- where the paper's steps stand after calls from a Start
 abbrev pub paperAfter : List Call → State

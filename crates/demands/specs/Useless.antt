@@ -1,6 +1,6 @@
 -- Managers that nobody would want, as values of the record: the paper's five, three more (6 to 8), and eight that are
--- wrong only at times (9 to 16). All but the first two are a manager that has both demands, `right`, with one thing
--- made wrong.
+-- wrong only at times (9 to 16). All but the first two are a manager that has both demands and minds no stranger,
+-- `right`, with one thing made wrong.
 use Prim.Native.Nat.{ℕ}
 use mathlib.Core.Path.{_≡_}
 use mathlib.Core.Bool.{Bool, true, false, cond}
@@ -372,9 +372,9 @@ HasNeither m = (Demand2Of m → ⊥) × (Demand3Of m → ⊥)
 abbrev pub Only3 : {S : Type 0} → Manager S → Type 0
 Only3 m = (Demand2Of m → ⊥) × Demand3Of m
 
--- of these, the ones in which a stranger changes what a channel is told, once a table is full
-abbrev pub ByStrangers : {S : Type 0} → Manager S → Type 0
-ByStrangers m = Only3 m × (StrangersOf m → ⊥)
+-- of these the ones in which, once a table is full, a stranger changes what a channel is told
+abbrev pub Only3NotStrangers : {S : Type 0} → Manager S → Type 0
+Only3NotStrangers m = Only3 m × (StrangersOf m → ⊥)
 
 pub record UselessManagersHaveThemNot : Type 1 where
   -- the paper's five
@@ -392,8 +392,8 @@ pub record UselessManagersHaveThemNot : Type 1 where
   pub invents-its-count-later : (count : ℕ) → HasNeither (inventsLater count)
   pub goes-on-over-a-new-start : HasNeither goesOnOver
   pub forgets-a-garbled-block : HasNeither forgets
-  pub right-until-full : ByStrangers untilFull
-  pub makes-room-by-dropping-others : ByStrangers makesRoom
+  pub right-until-full : Only3NotStrangers untilFull
+  pub makes-room-by-dropping-others : Only3NotStrangers makesRoom
   pub never-declines-for-full : Only3 neverDeclines
   pub answers-a-wrong-level : Only3 wrongLevel
   -- and the manager that 3 to 16 are made from has all
