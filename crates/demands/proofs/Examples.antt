@@ -23,16 +23,17 @@ use Rattle.channel.specs.Answers.{numberOf}
 use Rattle.channel.specs.Stages.{added, tookFirst, took}
 use Rattle.channel.specs.Channel.{Create, Bring, Garbled, Closing, LocalClose, openedRecord, restaged, opening, stageAfter}
 use Rattle.channel.specs.Channel.{partAfter, answerTo, landed, act}
-use Rattle.table.specs.Table.{emptyTable, holds, isFree, numberPlace, freePlace, recordAt, withRecord}
+use Rattle.table.specs.Totals.{opens as opens-one, moved, changed}
+use Rattle.table.specs.Table.{emptyTable, holds, isFree, numberPlace, freePlace, recordAt, placed, withRecord}
 use Rattle.connection.specs.States.{State, stateOf, viewAt, view, roomAt, roomIn, wrote, save}
 use Rattle.client.specs.Events.{Event, Unreadable, Capabilities, Of, createAct, unread, eventOf, isOf}
 use Rattle.client.specs.Client.{Stepped, finished, acted, readied, stepped}
 use Rattle.client.proofs.Steps.{made-ready}
 use Rattle.steps.specs.States.{Calm}
-use Rattle.demands.specs.Trace.{consIf, keep}
+use Rattle.demands.specs.Trace.{consIf, keep, final}
 use Rattle.demands.specs.Joining.{Off, gathered, startsWith, goesOn, joins, joinsIf}
 use Rattle.demands.specs.Telling.{whyNot, answered, stepSays, saysIf, handsUp, toldIf, toldWith}
-use Rattle.demands.specs.Runs.{Call, gives, after, Told, toldTo, ownEvents, eventIn, isEventOf, eventsOf, fullTable}
+use Rattle.demands.specs.Runs.{Call, gives, after, Told, toldTo, ends, ownEvents, eventIn, isEventOf, eventsOf, fullTable}
 use Rattle.demands.specs.Runs.{asksRoom, eventMeetsFull, meetsFull, fullFlags}
 use Rattle.demands.specs.Managers.{first-start, tellsTo, atStart, sightNext, sightTold, paperStart, paperNext, Roomy}
 use Rattle.demands.specs.Managers.{paperAfter, flagsFor, StrangersOf}
@@ -206,6 +207,28 @@ unfolding many-events many-flags opened toldWith toldIf saysIf joinsIf handsUp s
     gathered MESSAGE-MAX
 many-fill = ap (map (λ (t : Told). t .answer)) (told-in many 17)
 
+-- where a run ends
+ends-by : (st : State) → Calm st → (xs : List Call) → ends st xs ≡ final paperNext st (eventsOf xs)
+unfolding ends
+ends-by st g [] = refl
+ends-by st g (c ∷ xs) = ends-by (after st c) (calm-call st g c) xs ∙ ap (λ (s : State). final paperNext s (eventsOf xs)) (call-state st c (g .sane))
+
+ends-in :
+    {xs : List Call} {es : List Event} {fs : List Bool} → Ran xs es fs → ends justReady xs ≡ final paperNext paperReady es
+ends-in {xs = xs} r = ends-by justReady ready-calm xs ∙ rw (begins-there, r .read)
+
+few-open : ends justReady besideFew .table .totals .channels ≡ 2
+unfolding few-events opened paperReady readied stepped acted finished save wrote view viewAt roomIn roomAt numberPlace freePlace
+    recordAt placed withRecord changed moved opens-one emptyTable holds isFree place act landed stageAfter partAfter answerTo restaged took
+    tookFirst added opening openedRecord PARTS MESSAGE-MAX
+few-open = ap (λ (s : State). s .table .totals .channels) (ends-in few)
+
+many-open : ends justReady besideMany .table .totals .channels ≡ 16
+unfolding many-events opened paperReady readied stepped acted finished save wrote view viewAt roomIn roomAt numberPlace freePlace
+    recordAt placed withRecord changed moved opens-one emptyTable holds isFree place act landed stageAfter partAfter answerTo restaged took
+    tookFirst added opening openedRecord PARTS MESSAGE-MAX
+many-open = ap (λ (s : State). s .table .totals .channels) (ends-in many)
+
 few-lists : WithList PUMP besideFew
 unfolding besideFew opens closed closedHere begins brings garbles asks call
 few-lists = (refl, (refl, (refl, (refl, (refl, (refl, (refl, (refl, (refl, (refl, (tt, (refl, (refl, (refl, tt))))))))))))))
@@ -229,6 +252,8 @@ beside-few-or-many =
       fills = many-fill;
       beside-few = few-told;
       beside-many = many-told;
+      open-beside-few = few-open;
+      open-beside-many = many-open;
     }
 
 -- ---- alone, or behind sixteen

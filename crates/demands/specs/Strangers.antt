@@ -156,6 +156,9 @@ pub record BesideFewOrMany : Type 0 where
   -- what 5 is told
   pub beside-few : toldTo 5 justReady besideFew ≡ toldToFive
   pub beside-many : toldTo 5 justReady besideMany ≡ toldToFive
+  -- what is all channels' is not the same: two are open at the end, or sixteen
+  pub open-beside-few : ends justReady besideFew .table .totals .channels ≡ 2
+  pub open-beside-many : ends justReady besideMany .table .totals .channels ≡ 16
 
 -- two runs that meet all but the one on the full table: 5 is answered otherwise
 pub record AloneOrBehindSixteen : Type 0 where
