@@ -5,7 +5,6 @@ use mathlib.Core.Path.{_≡_, refl, sym, ap, _∙_}
 use mathlib.Core.Bool.{Bool, true, false}
 use mathlib.Core.List.{List, [], _∷_, map}
 use Prim.Native.Nat.{ℕ}
-use native.Mathlib.Omega.{arith}
 use Rattle.paper.specs.Sizes.{PDU-MAX, MESSAGE-MAX, LIST-MAX, PARTS, STORE}
 use Rattle.paper.specs.declared.Refusal.the-variants.{CutShort, NoCommand}
 use Rattle.lists.specs.Bytes.{zeros}
@@ -19,7 +18,6 @@ use Rattle.listeners.specs.Listeners.{names, ended, noneEmpty, sameBytes, isOne
 use Rattle.channel.specs.declared.Offer.the-variants.{First, More}
 use Rattle.channel.specs.declared.Decline.the-variants.{Full}
 use Rattle.channel.specs.declared.Answer.the-variants.{Opened, Declined, Message}
-use Rattle.channel.specs.Answers.{numberOf}
 use Rattle.channel.specs.Stages.{added, tookFirst, took}
 use Rattle.channel.specs.Channel.{Create, Bring, Garbled, Closing, LocalClose, openedRecord, restaged, opening, stageAfter}
 use Rattle.channel.specs.Channel.{partAfter, answerTo, landed, act}
@@ -35,10 +33,8 @@ use Rattle.demands.specs.Joining.{Off, gathered, startsWith, goesOn, joi
 use Rattle.demands.specs.Telling.{whyNot, answered, stepSays, saysIf, handsUp, toldIf, toldWith}
 use Rattle.demands.specs.Runs.{Call, gives, after, Told, toldTo, ends, ownEvents, eventIn, isEventOf, eventsOf, fullTable}
 use Rattle.demands.specs.Runs.{asksRoom, eventMeetsFull, meetsFull, fullFlags}
-use Rattle.demands.specs.Managers.{first-start, tellsTo, atStart, sightNext, sightTold, paperStart, paperNext, Roomy}
-use Rattle.demands.specs.Managers.{paperAfter, flagsFor, StrangersOf}
-use Rattle.demands.specs.Useless.{isFull, fresh as anew, besideNext, managerBy, warpNext, warpTold, warped, noted}
-use Rattle.demands.specs.Useless.{from-then, spoilsAfter, doubleTold, untilFull, roomNext, makesRoom}
+use Rattle.demands.specs.Managers.{paperStart, paperNext, Roomy}
+use Rattle.demands.specs.Managers.{flagsFor}
 use Rattle.demands.specs.Examples.{call, PUMP, asks, opens, closed, closedHere, begins, brings, garbles, hello, justReady}
 use Rattle.demands.specs.Examples.{replies, hands, besideFew, besideMany, toldToFive, alone, behindSixteen}
 use Rattle.demands.specs.Orders.{NeverFull}
@@ -48,13 +44,12 @@ use Rattle.demands.proofs.Machine.{call-state}
 use Rattle.demands.proofs.Orders.{empty-unready, fresh, calm-call, told-shut}
 use Rattle.demands.proofs.Ready.{just-ready, ready-is}
 use Rattle.demands.proofs.Third.{own-map, pick, seen-pick, marks}
-use Rattle.demands.proofs.ByFlags.{runBy, fullFrom, calls-by}
-use Rattle.demands.proofs.Useless.{hello-read, number-at, ups-at}
+use Rattle.demands.proofs.ByFlags.{fullFrom}
 
-opened : ℕ → Event
+unfoldable pub opened : ℕ → Event
 opened n = Of n (Create true 0)
 
-few-events : List Event
+unfoldable pub few-events : List Event
 few-events =
     opened 5
     ∷ opened 6
@@ -72,7 +67,7 @@ few-events =
     ∷ Of 5 (Bring More (7 ∷ 8 ∷ []))
     ∷ []
 
-many-events : List Event
+unfoldable pub many-events : List Event
 many-events =
     opened 1 ∷ opened 2 ∷ opened 3 ∷ opened 4
     ∷ opened 5
@@ -96,18 +91,22 @@ many-events =
 -- ---- a run from the connection just made ready, by its events
 
 -- where it begins, as the paper's steps have it
-paperReady : State
+unfoldable pub paperReady : State
 paperReady = readied (stateOf emptyTable (zeros STORE)) 3 .state
 
 begins-there : justReady ≡ paperReady
 unfolding paperReady
 begins-there = ready-is
 
+pub paper-ready : paperNext paperStart (Capabilities 3) ≡ paperReady
+unfolding paperReady paperStart
+paper-ready = ap (λ (s : Stepped). s .state) (made-ready (stateOf emptyTable (zeros STORE)) 3 empty-unready)
+
 ready-calm : Calm justReady
 ready-calm = fresh justReady just-ready .running .calm
 
 -- a run, its events, and which of them meet a full table
-record Ran (xs : List Call) (es : List Event) (fs : List Bool) : Type 0 where
+pub record Ran (xs : List Call) (es : List Event) (fs : List Bool) : Type 0 where
   pub read : eventsOf xs ≡ es
   pub full : fullFrom paperReady es ≡ fs
 
@@ -125,14 +124,14 @@ kept-picked on [] = refl
 kept-picked on (x ∷ xs) = ap (consIf (on x) x) (kept-picked on xs)
 
 module _ {xs : List Call} {es : List Event} {fs : List Bool} (r : Ran xs es fs) (n : ℕ) where
-  flags-for : flagsFor n paperReady es ≡ pick (map (isOf n) es) fs
+  pub flags-for : flagsFor n paperReady es ≡ pick (map (isOf n) es) fs
   unfolding flagsFor
   flags-for = seen-pick paperNext (isOf n) eventMeetsFull paperReady es ∙ ap (pick (map (isOf n) es)) (r .full)
 
   flags-are : fullFlags n justReady xs ≡ pick (map (isOf n) es) fs
   flags-are = flags-by n justReady ready-calm xs ∙ rw (begins-there, r .read) flags-for
 
-  own-are : ownEvents n xs ≡ keep (isOf n) es
+  pub own-are : ownEvents n xs ≡ keep (isOf n) es
   own-are = own-map n xs ∙ ap (keep (isOf n)) (r .read)
 
   happen : ownHappenings n xs ≡ map (λ (c : Call). happening (c .asked)) (pick (map (isOf n) es) xs)
@@ -166,10 +165,10 @@ is-on = fresh justReady just-ready .running .ready
 
 -- ---- channel 5 beside few, and beside many
 
-few-flags : List Bool
+unfoldable pub few-flags : List Bool
 few-flags = map (λ (e : Event). false) few-events
 
-few : Ran besideFew few-events few-flags
+pub few : Ran besideFew few-events few-flags
 unfolding besideFew few-events few-flags opened opens closed closedHere begins brings garbles asks PUMP call eventIn eventOf
     unread carries carriesBy bringsBlock wholeIn createAct readPdu byCommand numbered badLengthWidth afterNumber closing dataFirst
     createRequest namedFor bytesAt little valueOf valueAt widthOf place names ended noneEmpty sameBytes isOneOf allNames goodList
@@ -178,12 +177,12 @@ unfolding besideFew few-events few-flags opened opens closed closedHere begins b
     openedRecord eventMeetsFull asksRoom fullTable PARTS MESSAGE-MAX
 few = record { read = refl; full = refl }
 
-many-flags : List Bool
+unfoldable pub many-flags : List Bool
 many-flags =
     false ∷ false ∷ false ∷ false ∷ false ∷ false ∷ false ∷ false ∷ false ∷ false ∷ false ∷ false ∷ false ∷ false ∷ false ∷ false
     ∷ false ∷ true ∷ false ∷ false ∷ false ∷ false ∷ false ∷ false ∷ false ∷ false ∷ false ∷ false ∷ false ∷ false ∷ []
 
-many : Ran besideMany many-events many-flags
+pub many : Ran besideMany many-events many-flags
 unfolding besideMany many-events many-flags opened opens closed closedHere begins brings garbles asks PUMP call eventIn eventOf
     unread carries carriesBy bringsBlock wholeIn createAct readPdu byCommand numbered badLengthWidth afterNumber closing dataFirst
     createRequest namedFor bytesAt little valueOf valueAt widthOf place names ended noneEmpty sameBytes isOneOf allNames goodList
@@ -261,17 +260,18 @@ beside-few-or-many =
 alone-events : List Event
 alone-events = opened 5 ∷ []
 
-behind-events : List Event
+unfoldable pub behind-events : List Event
 behind-events =
     opened 1 ∷ opened 2 ∷ opened 3 ∷ opened 4 ∷ opened 6 ∷ opened 7 ∷ opened 8 ∷ opened 9
     ∷ opened 10 ∷ opened 11 ∷ opened 12 ∷ opened 13 ∷ opened 14 ∷ opened 15 ∷ opened 16 ∷ opened 17
     ∷ opened 5
+    ∷ Of 6 (Bring More (7 ∷ 8 ∷ []))
     ∷ []
 
-behind-flags : List Bool
+unfoldable pub behind-flags : List Bool
 behind-flags =
     false ∷ false ∷ false ∷ false ∷ false ∷ false ∷ false ∷ false ∷ false ∷ false ∷ false ∷ false ∷ false ∷ false ∷ false ∷ false
-    ∷ true ∷ []
+    ∷ true ∷ false ∷ []
 
 by-itself : Ran alone alone-events (false ∷ [])
 unfolding alone alone-events opened opens asks PUMP call eventIn eventOf unread carries carriesBy bringsBlock wholeIn createAct
@@ -282,8 +282,8 @@ unfolding alone alone-events opened opens asks PUMP call eventIn eventOf unread 
     PARTS MESSAGE-MAX
 by-itself = record { read = refl; full = refl }
 
-behind : Ran behindSixteen behind-events behind-flags
-unfolding behindSixteen behind-events behind-flags opened opens asks PUMP call eventIn eventOf unread carries carriesBy
+pub behind : Ran behindSixteen behind-events behind-flags
+unfolding behindSixteen behind-events behind-flags opened opens brings asks PUMP call eventIn eventOf unread carries carriesBy
     bringsBlock wholeIn createAct readPdu byCommand numbered badLengthWidth afterNumber closing dataFirst createRequest namedFor
     bytesAt little valueOf valueAt widthOf place names ended noneEmpty sameBytes isOneOf allNames goodList isListed PDU-MAX
     LIST-MAX paperReady readied stepped acted finished save wrote view viewAt roomIn roomAt numberPlace freePlace recordAt
@@ -296,11 +296,11 @@ unfolding alone opens asks call
 alone-list = (refl, tt)
 
 behind-lists : WithList PUMP behindSixteen
-unfolding behindSixteen opens asks call
-behind-lists = (refl, (refl, (refl, (refl, (refl, (refl, (refl, (refl, (refl, (refl, (refl, (refl, (refl, (refl, (refl, (refl, (refl, tt)))))))))))))))))
+unfolding behindSixteen opens brings asks call
+behind-lists = (refl, (refl, (refl, (refl, (refl, (refl, (refl, (refl, (refl, (refl, (refl, (refl, (refl, (refl, (refl, (refl, (refl, (refl, tt))))))))))))))))))
 
 alone-happen : ownHappenings 5 alone ≡ ownHappenings 5 behindSixteen
-unfolding alone behindSixteen alone-events behind-events opened opens asks call
+unfolding alone behindSixteen alone-events behind-events opened opens brings asks call
 alone-happen = happen by-itself 5 ∙ sym (happen behind 5)
 
 pub alone-or-behind-sixteen : AloneOrBehindSixteen
@@ -311,60 +311,3 @@ alone-or-behind-sixteen =
       opened-alone = ap (map (λ (t : Told). t .answer)) (told-in by-itself 5);
       declined-behind-sixteen = ap (map (λ (t : Told). t .answer)) (told-in behind 5);
     }
-
--- ---- managers in which a stranger changes what 5 is told
-
--- the paper's steps make the same state
-paper-after : paperAfter (hello ∷ []) ≡ paperReady
-unfolding paperReady paperStart
-paper-after =
-    ap (λ (e : Event). paperNext (stateOf emptyTable (zeros STORE)) e) hello-read
-    ∙ ap (λ (s : Stepped). s .state) (made-ready (stateOf emptyTable (zeros STORE)) 3 empty-unready)
-
-paper-on : paperAfter (hello ∷ []) .table .ready ≡ true
-unfolding paperReady readied
-paper-on = ap (λ (p : State). p .table .ready) paper-after
-
-paper-flags :
-    {xs : List Call} {es : List Event} {fs : List Bool} (r : Ran xs es fs) (n : ℕ)
-    → flagsFor n (paperAfter (hello ∷ [])) (eventsOf xs) ≡ pick (map (isOf n) es) fs
-paper-flags r n = rw (paper-after, r .read) (flags-for r n)
-
-module _ {S : Type 0} (s : S) (next : Bool → S → Event → S) (tells : Bool → S → Event → Told) where
-  -- what such a manager tells 5
-  five :
-      {xs : List Call} {es : List Event} {fs : List Bool} → Ran xs es fs
-      → tellsTo (managerBy s next tells) (managerBy s next tells .next (anew s) hello) 5 xs
-      ≡ pick (map (isOf 5) es) (runBy next tells (next false s (Capabilities 3)) es fs)
-  unfolding tellsTo managerBy besideNext eventMeetsFull
-  five {xs = xs} r =
-      let b = besideNext next (anew s) (eventIn (hello .asked)) in
-      seen-pick (managerBy s next tells .next) (isEventOf 5) (managerBy s next tells .tells) b xs
-      ∙ rw (marks 5 xs, calls-by next tells b xs, r .read, paper-after, r .full, hello-read)
-
-  -- to one that has the property, few and many are the same
-  same-five :
-      StrangersOf (managerBy s next tells)
-      → pick (map (isOf 5) few-events) (runBy next tells (next false s (Capabilities 3)) few-events few-flags)
-      ≡ pick (map (isOf 5) many-events) (runBy next tells (next false s (Capabilities 3)) many-events many-flags)
-  unfolding StrangersOf managerBy few-events many-events few-flags many-flags opened
-  same-five d =
-      let own = own-are few 5 ∙ sym (own-are many 5) in
-      let full = paper-flags few 5 ∙ sym (paper-flags many 5) in
-      sym (five few) ∙ d (anew s) first-start (hello ∷ []) paper-on 5 besideFew besideMany own full ∙ five many
-
--- 10: beside many the first message goes up twice
-pub until-full-not : StrangersOf untilFull → ⊥
-unfolding untilFull spoilsAfter warped warpNext warpTold few-events many-events few-flags many-flags opened sightNext sightTold
-    toldIf saysIf joinsIf handsUp stepSays answered whyNot joins startsWith goesOn gathered MESSAGE-MAX
-until-full-not d =
-    let z : _≡_ {A = ℕ} 1 2 = ap (ups-at 2) (same-five (record { sight = atStart; memory = false }) (warpNext (noted isFull)) (warpTold (from-then doubleTold)) d) in
-    omega arith
-
--- 16: beside many the second block of the message is refused: 5 isn't open
-pub makes-room-not : StrangersOf makesRoom → ⊥
-unfolding makesRoom roomNext few-events many-events few-flags many-flags opened numberOf sightNext sightTold toldIf saysIf joinsIf
-    handsUp stepSays answered whyNot joins startsWith goesOn gathered MESSAGE-MAX
-makes-room-not d =
-    let z : _≡_ {A = ℕ} 3 8 = ap (number-at 2) (same-five atStart roomNext (λ full. sightTold false) d) in
-    omega arith

@@ -67,7 +67,7 @@ pub empty-unready : emptyTable .ready ≡ false
 unfolding emptyTable
 empty-unready = refl
 
-read-caps :
+pub read-caps :
     (list pdu : List ℕ) (version : ℕ) (charges : Charges) → readPdu true pdu ≡ CapsRequest version charges
     → eventIn (receives list pdu) ≡ Capabilities version
 unfolding eventIn

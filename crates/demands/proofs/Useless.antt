@@ -1,5 +1,6 @@
 -- None of the useless managers has demand 2, and of the sixteen only those that are wrong after a full table or in the level have
--- demand 3 (proofs/Unseen). Two runs refute them all, with PUMP as the one listener; each refutation looks at one place of a run.
+-- demand 3 (proofs/Unseen); strangers refute two of these. A few runs do it, with PUMP as the one listener; each refutation looks at
+-- one place of a run.
 -- Assumes nothing.
 use Prim.Native.Nat.{ℕ, zero, suc, _+_}
 use mathlib.Core.Path.{_≡_, refl, sym, ap, _∙_, subst}
@@ -15,7 +16,7 @@ use Rattle.lists.specs.Bytes.{zeros}
 use Rattle.lists.specs.Places.{place}
 use Rattle.lists.proofs.Cases.{true-not-false}
 use Rattle.numbers.specs.Numbers.{little, valueOf, valueAt, widthOf}
-use Rattle.reading.specs.Reading.{namedFor, createRequest, dataFirst, closing, afterNumber, badLengthWidth, numbered, capabilities, badVersion, byVersion, charged, byCommand, readPdu}
+use Rattle.reading.specs.Reading.{namedFor, createRequest, dataFirst, closing, afterNumber, badLengthWidth, numbered, byCommand, readPdu}
 use Rattle.reading.specs.Said.{bytesAt}
 use Rattle.reading.specs.Garbled.{bringsBlock, wholeIn, carriesBy, carries}
 use Rattle.laying.specs.Laying.{createResponseBytes, closeBytes}
@@ -29,16 +30,21 @@ use Rattle.channel.specs.Stages.{added, tookFirst, took}
 use Rattle.channel.specs.Channel.{Create, Bring, Garbled, Closing, openedRecord, restaged, opening, stageAfter, partAfter, answerTo, landed, act}
 use Rattle.channel.specs.Answers.{numberOf, declineNumber}
 use Rattle.table.specs.Table.{emptyTable, holds, isFree, numberPlace, freePlace, recordAt, withRecord}
-use Rattle.connection.specs.States.{viewAt, view, roomAt, roomIn, wrote, save}
+use Rattle.connection.specs.States.{State, viewAt, view, roomAt, roomIn, wrote, save}
 use Rattle.client.specs.Events.{Event, Unreadable, Capabilities, Of, createAct, unread, eventOf, isOf}
 use Rattle.client.specs.Client.{finished, acted, readied, stepped}
 use Rattle.demands.specs.Trace.{consIf, keep, final, seen}
 use Rattle.demands.specs.Runs.{Call, Told, eventIn, isEventOf, eventsOf, ownEvents, fullTable, asksRoom, eventMeetsFull}
 use Rattle.demands.specs.Joining.{Off, Gathering, Brings, NoMessage, StillToCome, Complete, gathered, startsWith, goesOn, joins, joinsIf, joinWith, joinAll, broughtBy, brought, once, handed}
 use Rattle.demands.specs.Telling.{whyNot, answered, stepSays, saysIf, handsUp, toldIf, tellsNone}
-use Rattle.demands.specs.Managers.{Manager, ReachedBy, at-first, called, first-start, new-start, everyTold, tellsTo, Sight, atStart, sightNext, sightTold, readyTold, paperStart, shouldTell, nobodys, isNobodys, Roomy, strayUp, AllEmpty, Orders, Demand2Of, Demand3Of}
-use Rattle.demands.specs.Useless.{isNo, isMessage, isHeld, isFull, OnlyNo, refusesAll, Always, fixed, Beside, fresh, managerBy, right, warpNext, warpTold, warped, forget, always, respelled, noted, from-then, spoilsAfter, blankTold, storeless, firstOnly, recountTold, invents, doubleTold, twice, keptMemory, keptStand, keptNext, keeps, lostBy, disturbNext, disturbs, lastTold, replays, replayer, untilFull, neverDeclines, inventsLater, relevelTold, wrongLevel, keptOver, goesOnOver, forgetsNext, forgetsTold, forgets, roomNext, makesRoom, HasNeither}
+use Rattle.demands.specs.Managers.{Manager, ReachedBy, at-first, called, first-start, new-start, everyTold, tellsTo, Sight, atStart, sightNext, sightTold, readyTold, paperStart, shouldTell, nobodys, isNobodys, Roomy, strayUp, AllEmpty, Orders, Demand2Of, Demand3Of, paperNext, paperAfter, flagsFor, StrangersOf}
+use Rattle.demands.specs.Useless.{besideNext, isNo, isMessage, isHeld, isFull, OnlyNo, refusesAll, Always, fixed, Beside, fresh, managerBy, right, warpNext, warpTold, warped, forget, always, respelled, noted, from-then, spoilsAfter, blankTold, storeless, firstOnly, recountTold, invents, doubleTold, twice, keptMemory, keptStand, keptNext, keeps, lostBy, disturbNext, disturbs, lastTold, replays, replayer, untilFull, neverDeclines, inventsLater, relevelTold, wrongLevel, keptOver, goesOnOver, forgetsNext, forgetsTold, forgets, roomNext, makesRoom, HasNeither}
 use Rattle.demands.specs.Examples.{call, PUMP, asks, hello, opens, closed, begins, brings, garbles, replies, hands}
+use Rattle.demands.specs.Examples.{besideFew, besideMany, behindSixteen}
+use Rattle.demands.proofs.Ready.{hello-read}
+use Rattle.demands.proofs.Examples as examples
+use Rattle.demands.proofs.Examples.{opened, few-events, few-flags, many-events, many-flags, behind-events, behind-flags}
+use Rattle.demands.proofs.Examples.{paperReady, paper-ready, Ran, flags-for, own-are}
 use Rattle.demands.proofs.Third.{own-map, pick, seen-pick, seen-map, marks, nobody-marks, tail, two-gives-three}
 use Rattle.demands.proofs.ByFlags.{runBy, finalBy, fullFrom, roomy-run, should-by, calls-by, told-by, comes-to, respoken, warped-by}
 
@@ -81,38 +87,9 @@ short-events =
     ∷ Of 5 (Bring More (6 ∷ []))
     ∷ []
 
--- seventeen channels, and a message
-many : List Call
-many =
-    opens 1 ∷ opens 2 ∷ opens 3 ∷ opens 4 ∷ opens 5 ∷ opens 6 ∷ opens 7 ∷ opens 8
-    ∷ opens 9 ∷ opens 10 ∷ opens 11 ∷ opens 12 ∷ opens 13 ∷ opens 14 ∷ opens 15 ∷ opens 16
-    ∷ opens 17
-    ∷ brings 5 (7 ∷ 8 ∷ [])
-    ∷ []
-
-opened-event : ℕ → Event
-opened-event n = Of n (Create true 0)
-
-many-events : List Event
-many-events =
-    opened-event 1 ∷ opened-event 2 ∷ opened-event 3 ∷ opened-event 4 ∷ opened-event 5 ∷ opened-event 6
-    ∷ opened-event 7 ∷ opened-event 8 ∷ opened-event 9 ∷ opened-event 10 ∷ opened-event 11 ∷ opened-event 12
-    ∷ opened-event 13 ∷ opened-event 14 ∷ opened-event 15 ∷ opened-event 16
-    ∷ opened-event 17
-    ∷ Of 5 (Bring More (7 ∷ 8 ∷ []))
-    ∷ []
-
-pub hello-read : eventIn (hello .asked) ≡ Capabilities 3
-unfolding hello asks PUMP call eventIn eventOf readPdu byCommand capabilities badVersion byVersion charged little valueOf valueAt PDU-MAX
-hello-read = refl
-
 short-read : eventsOf short ≡ short-events
 unfolding short short-events opens closed begins brings garbles asks PUMP call eventIn eventOf unread carries carriesBy bringsBlock wholeIn createAct readPdu byCommand numbered badLengthWidth afterNumber closing dataFirst createRequest namedFor bytesAt little valueOf valueAt widthOf place names ended noneEmpty sameBytes isOneOf allNames goodList isListed PDU-MAX LIST-MAX
 short-read = refl
-
-many-read : eventsOf many ≡ many-events
-unfolding many many-events opened-event opens brings asks PUMP call eventIn eventOf unread carries carriesBy bringsBlock wholeIn createAct readPdu byCommand numbered badLengthWidth afterNumber closing dataFirst createRequest namedFor bytesAt little valueOf valueAt widthOf place names ended noneEmpty sameBytes isOneOf allNames goodList isListed PDU-MAX LIST-MAX
-many-read = refl
 
 with-hello : (xs : List Call) (es : List Event) → eventsOf xs ≡ es → eventsOf (hello ∷ xs) ≡ Capabilities 3 ∷ es
 with-hello xs es e = ap (λ (x : Event). x ∷ eventsOf xs) hello-read ∙ ap (λ (l : List Event). Capabilities 3 ∷ l) e
@@ -122,12 +99,10 @@ short-roomy : Roomy paperStart (Capabilities 3 ∷ short-events)
 unfolding short-events paperStart readied stepped acted finished save wrote view viewAt roomIn roomAt numberPlace freePlace recordAt withRecord emptyTable holds isFree place act landed stageAfter partAfter answerTo restaged took tookFirst added opening openedRecord eventMeetsFull asksRoom fullTable PARTS MESSAGE-MAX
 short-roomy = (refl, (refl, (refl, (refl, (refl, (refl, (refl, (refl, (refl, (refl, (refl, (refl, (refl, (refl, (refl, tt)))))))))))))))
 
-many-flags :
-    fullFrom paperStart (Capabilities 3 ∷ many-events)
-    ≡ false ∷ false ∷ false ∷ false ∷ false ∷ false ∷ false ∷ false ∷ false ∷ false ∷ false ∷ false ∷ false ∷ false ∷ false ∷ false
-    ∷ false ∷ true ∷ false ∷ []
-unfolding many-events opened-event paperStart readied stepped acted finished save wrote view viewAt roomIn roomAt numberPlace freePlace recordAt withRecord emptyTable holds isFree place act landed stageAfter partAfter answerTo restaged took tookFirst added opening openedRecord eventMeetsFull asksRoom fullTable PARTS MESSAGE-MAX
-many-flags = refl
+-- and in the examples' runs, behind the Capabilities request
+flags-behind : {xs : List Call} {es : List Event} {fs : List Bool} → Ran xs es fs → fullFrom paperStart (Capabilities 3 ∷ es) ≡ false ∷ fs
+unfolding eventMeetsFull
+flags-behind r = rw paper-ready (ap (λ (fs : List Bool). false ∷ fs) (r .full))
 
 -- ---- what should be told in them
 
@@ -153,22 +128,22 @@ short-told =
     ∷ tellsNone (Refused IsSpoiled (Channel 5))
     ∷ []
 
-many-told : List Told
-many-told =
+behind-told : List Told
+behind-told =
     readyTold 3
-    ∷ opened-told 1 ∷ opened-told 2 ∷ opened-told 3 ∷ opened-told 4 ∷ opened-told 5 ∷ opened-told 6 ∷ opened-told 7 ∷ opened-told 8
-    ∷ opened-told 9 ∷ opened-told 10 ∷ opened-told 11 ∷ opened-told 12 ∷ opened-told 13 ∷ opened-told 14 ∷ opened-told 15 ∷ opened-told 16
-    ∷ replies (Declined 17 Full) (createResponseBytes 17 FULL)
-    ∷ hands 5 (7 ∷ 8 ∷ [])
+    ∷ opened-told 1 ∷ opened-told 2 ∷ opened-told 3 ∷ opened-told 4 ∷ opened-told 6 ∷ opened-told 7 ∷ opened-told 8 ∷ opened-told 9
+    ∷ opened-told 10 ∷ opened-told 11 ∷ opened-told 12 ∷ opened-told 13 ∷ opened-told 14 ∷ opened-told 15 ∷ opened-told 16 ∷ opened-told 17
+    ∷ replies (Declined 5 Full) (createResponseBytes 5 FULL)
+    ∷ hands 6 (7 ∷ 8 ∷ [])
     ∷ []
 
 short-run : runBy sightNext sightTold atStart (Capabilities 3 ∷ short-events) [] ≡ short-told
 unfolding short-told short-events replies hands opened-told sightNext sightTold toldIf saysIf joinsIf handsUp stepSays answered whyNot joins startsWith goesOn gathered MESSAGE-MAX
 short-run = refl
 
-many-run : runBy sightNext sightTold atStart (Capabilities 3 ∷ many-events) (fullFrom paperStart (Capabilities 3 ∷ many-events)) ≡ many-told
-unfolding many-told many-events opened-event replies hands opened-told sightNext sightTold toldIf saysIf joinsIf handsUp stepSays answered whyNot joins startsWith goesOn gathered MESSAGE-MAX
-many-run = ap (runBy sightNext sightTold atStart (Capabilities 3 ∷ many-events)) many-flags
+behind-run : runBy sightNext sightTold atStart (Capabilities 3 ∷ behind-events) (fullFrom paperStart (Capabilities 3 ∷ behind-events)) ≡ behind-told
+unfolding behind-told behind-events behind-flags opened replies hands opened-told sightNext sightTold toldIf saysIf joinsIf handsUp stepSays answered whyNot joins startsWith goesOn gathered MESSAGE-MAX
+behind-run = ap (runBy sightNext sightTold atStart (Capabilities 3 ∷ behind-events)) (flags-behind examples.behind)
 
 -- what they bring on 5
 short-brings : List Brings
@@ -236,12 +211,12 @@ abbrev weight-at : ℕ → List Brings → ℕ
 weight-at k bs = weight (brings-at k bs)
 
 -- an answer's number, and how many messages go up with it
-abbrev pub number-at : ℕ → List Told → ℕ
+abbrev number-at : ℕ → List Told → ℕ
 number-at k [] = 0
 number-at zero (t ∷ ts) = numberOf (t .answer)
 number-at (suc k) (t ∷ ts) = number-at k ts
 
-abbrev pub ups-at : ℕ → List Told → ℕ
+abbrev ups-at : ℕ → List Told → ℕ
 ups-at k [] = 0
 ups-at zero (t ∷ ts) = length (t .message)
 ups-at (suc k) (t ∷ ts) = ups-at k ts
@@ -348,11 +323,6 @@ unfolding fixed
 fixed-not-3 t = always-not-3 (fixed t) (t .answer) (λ s c. refl)
 
 -- ---- 3 to 16: the right manager with one thing made wrong, in the short run
-
-flags-of :
-    (xs : List Call) (es : List Event) → eventsOf xs ≡ es
-    → fullFrom paperStart (eventsOf (hello ∷ xs)) ≡ fullFrom paperStart (Capabilities 3 ∷ es)
-flags-of xs es e = ap (fullFrom paperStart) (with-hello xs es e)
 
 module _ {S : Type 0} (s : S) (next : Bool → S → Event → S) (tells : Bool → S → Event → Told) where
   -- what it tells
@@ -475,40 +445,94 @@ module _ {S : Type 0} (s : S) (next : Bool → S → Event → S) (tells : Bool 
       ∙ ap (shouldTell paperStart atStart) (with-hello xs es e) ∙ should-by paperStart atStart (Capabilities 3 ∷ es)
 
 module _ {M : Type 0} (m : M) (remember : M → Event → Told → M) (spoil : M → Event → Told → Told) (d : Demand2Of (warped m remember spoil)) where
-  spoils-nothing : respoken remember spoil m (Capabilities 3 ∷ many-events) many-told ≡ many-told
+  spoils-nothing : respoken remember spoil m (Capabilities 3 ∷ behind-events) behind-told ≡ behind-told
   unfolding warped
   spoils-nothing =
-      ap (respoken remember spoil m (Capabilities 3 ∷ many-events)) (sym many-run)
-      ∙ sym (warped-by remember spoil (record { sight = atStart; memory = m }) (Capabilities 3 ∷ many-events) (fullFrom paperStart (Capabilities 3 ∷ many-events)))
-      ∙ tells-right (record { sight = atStart; memory = m }) (warpNext remember) (warpTold spoil) d many many-events many-read ∙ many-run
+      ap (respoken remember spoil m (Capabilities 3 ∷ behind-events)) (sym behind-run)
+      ∙ sym (warped-by remember spoil (record { sight = atStart; memory = m }) (Capabilities 3 ∷ behind-events) (fullFrom paperStart (Capabilities 3 ∷ behind-events)))
+      ∙ tells-right (record { sight = atStart; memory = m }) (warpNext remember) (warpTold spoil) d behindSixteen behind-events (examples.behind .read) ∙ behind-run
 
 -- 10: after the full table a message goes up twice
 pub until-full-not-2 : Demand2Of untilFull → ⊥
-unfolding untilFull spoilsAfter many-events opened-event many-told replies hands opened-told
+unfolding untilFull spoilsAfter behind-events opened behind-told replies hands opened-told
 until-full-not-2 d =
     let z : _≡_ {A = ℕ} 2 1 = ap (ups-at 18) (spoils-nothing false (noted isFull) (from-then doubleTold) d) in
     omega arith
 
 -- 13: the level is wrong at the first call
 pub wrong-level-not-2 : Demand2Of wrongLevel → ⊥
-unfolding wrongLevel respelled many-events opened-event many-told replies hands opened-told numberOf
+unfolding wrongLevel respelled behind-events opened behind-told replies hands opened-told numberOf
 wrong-level-not-2 d =
     let z : _≡_ {A = ℕ} 3 2 = ap (number-at 0) (spoils-nothing tt forget (always relevelTold) d) in
     omega arith
 
 -- 11: the seventeenth is opened
 pub never-declines-not-2 : Demand2Of neverDeclines → ⊥
-unfolding neverDeclines many-events opened-event many-told replies opened-told numberOf declineNumber sightNext sightTold toldIf saysIf joinsIf handsUp stepSays answered whyNot joins startsWith goesOn gathered MESSAGE-MAX
+unfolding neverDeclines behind-events opened behind-told replies opened-told numberOf declineNumber sightNext sightTold toldIf saysIf joinsIf handsUp stepSays answered whyNot joins startsWith goesOn gathered MESSAGE-MAX
 never-declines-not-2 d =
-    let z : _≡_ {A = ℕ} 0 2 = ap (number-at 17) (tells-right atStart (λ full. sightNext false) (λ full. sightTold false) d many many-events many-read ∙ many-run) in
+    let z : _≡_ {A = ℕ} 0 2 = ap (number-at 17) (tells-right atStart (λ full. sightNext false) (λ full. sightTold false) d behindSixteen behind-events (examples.behind .read) ∙ behind-run) in
     omega arith
 
 -- 16: so is it here
 pub makes-room-not-2 : Demand2Of makesRoom → ⊥
-unfolding makesRoom roomNext many-events opened-event many-told replies opened-told numberOf declineNumber sightNext sightTold toldIf saysIf joinsIf handsUp stepSays answered whyNot joins startsWith goesOn gathered MESSAGE-MAX
+unfolding makesRoom roomNext behind-events behind-flags opened behind-told replies opened-told numberOf declineNumber sightNext
+    sightTold toldIf saysIf joinsIf handsUp stepSays answered whyNot joins startsWith goesOn gathered MESSAGE-MAX
 makes-room-not-2 d =
-    let told = ap (runBy roomNext (λ full. sightTold false) atStart (Capabilities 3 ∷ many-events)) (sym many-flags) ∙ tells-right atStart roomNext (λ full. sightTold false) d many many-events many-read ∙ many-run in
+    let told = ap (runBy roomNext (λ full. sightTold false) atStart (Capabilities 3 ∷ behind-events)) (sym (flags-behind examples.behind)) ∙ tells-right atStart roomNext (λ full. sightTold false) d behindSixteen behind-events (examples.behind .read) ∙ behind-run in
     let z : _≡_ {A = ℕ} 0 2 = ap (number-at 17) told in
+    omega arith
+
+-- ---- strangers, where demand 3 doesn't see it: channel 5 beside few, and beside many
+
+paper-after : paperAfter (hello ∷ []) ≡ paperReady
+paper-after = ap (paperNext paperStart) hello-read ∙ paper-ready
+
+paper-on : paperAfter (hello ∷ []) .table .ready ≡ true
+unfolding paperReady readied
+paper-on = ap (λ (p : State). p .table .ready) paper-after
+
+paper-flags :
+    {xs : List Call} {es : List Event} {fs : List Bool} (r : Ran xs es fs) (n : ℕ)
+    → flagsFor n (paperAfter (hello ∷ [])) (eventsOf xs) ≡ pick (map (isOf n) es) fs
+paper-flags r n = rw (paper-after, r .read) (flags-for r n)
+
+module _ {S : Type 0} (s : S) (next : Bool → S → Event → S) (tells : Bool → S → Event → Told) where
+  -- what such a manager tells 5
+  five :
+      {xs : List Call} {es : List Event} {fs : List Bool} → Ran xs es fs
+      → tellsTo (managerBy s next tells) (managerBy s next tells .next (fresh s) hello) 5 xs
+      ≡ pick (map (isOf 5) es) (runBy next tells (next false s (Capabilities 3)) es fs)
+  unfolding tellsTo managerBy besideNext eventMeetsFull
+  five {xs = xs} r =
+      let b = besideNext next (fresh s) (eventIn (hello .asked)) in
+      seen-pick (managerBy s next tells .next) (isEventOf 5) (managerBy s next tells .tells) b xs
+      ∙ rw (marks 5 xs, calls-by next tells b xs, r .read, paper-after, r .full, hello-read)
+
+  -- to one that has the property, few and many are the same
+  same-five :
+      StrangersOf (managerBy s next tells)
+      → pick (map (isOf 5) few-events) (runBy next tells (next false s (Capabilities 3)) few-events few-flags)
+      ≡ pick (map (isOf 5) many-events) (runBy next tells (next false s (Capabilities 3)) many-events many-flags)
+  unfolding StrangersOf managerBy few-events many-events few-flags many-flags opened
+  same-five d =
+      let own = own-are examples.few 5 ∙ sym (own-are examples.many 5) in
+      let full = paper-flags examples.few 5 ∙ sym (paper-flags examples.many 5) in
+      sym (five examples.few) ∙ d (fresh s) first-start (hello ∷ []) paper-on 5 besideFew besideMany own full ∙ five examples.many
+
+-- 10: beside many the first message goes up twice
+pub until-full-not : StrangersOf untilFull → ⊥
+unfolding untilFull spoilsAfter warped warpNext warpTold few-events many-events few-flags many-flags opened sightNext sightTold
+    toldIf saysIf joinsIf handsUp stepSays answered whyNot joins startsWith goesOn gathered MESSAGE-MAX
+until-full-not d =
+    let z : _≡_ {A = ℕ} 1 2 = ap (ups-at 2) (same-five (record { sight = atStart; memory = false }) (warpNext (noted isFull)) (warpTold (from-then doubleTold)) d) in
+    omega arith
+
+-- 16: beside many the second block of the message is refused: 5 isn't open
+pub makes-room-not : StrangersOf makesRoom → ⊥
+unfolding makesRoom roomNext few-events many-events few-flags many-flags opened numberOf sightNext sightTold toldIf saysIf joinsIf
+    handsUp stepSays answered whyNot joins startsWith goesOn gathered MESSAGE-MAX
+makes-room-not d =
+    let z : _≡_ {A = ℕ} 3 8 = ap (number-at 2) (same-five atStart roomNext (λ full. sightTold false) d) in
     omega arith
 
 -- ---- 14: it goes on over a new Start
@@ -520,8 +544,8 @@ before-events : List Event
 before-events = Capabilities 3 ∷ Of 5 (Create true 0) ∷ Of 5 (Bring (First 4) (1 ∷ [])) ∷ []
 
 before-read : eventsOf before ≡ before-events
-unfolding before before-events hello opens begins asks PUMP call eventIn eventOf unread carries carriesBy bringsBlock wholeIn createAct readPdu byCommand capabilities badVersion byVersion charged numbered badLengthWidth afterNumber dataFirst createRequest namedFor bytesAt little valueOf valueAt widthOf place names ended noneEmpty sameBytes isOneOf allNames goodList isListed PDU-MAX LIST-MAX
-before-read = refl
+unfolding before before-events opens begins asks PUMP call eventIn eventOf createAct readPdu byCommand numbered badLengthWidth afterNumber dataFirst createRequest namedFor bytesAt little valueOf valueAt widthOf place names ended noneEmpty sameBytes isOneOf allNames goodList isListed PDU-MAX LIST-MAX
+before-read = with-hello (opens 5 ∷ begins 5 4 (1 ∷ []) ∷ []) (Of 5 (Create true 0) ∷ Of 5 (Bring (First 4) (1 ∷ [])) ∷ []) refl
 
 -- it stands in the middle of a message
 before-flags : fullFrom paperStart before-events ≡ false ∷ false ∷ false ∷ []
@@ -547,8 +571,8 @@ then-events : List Event
 then-events = Capabilities 3 ∷ Of 5 (Bring More (9 ∷ [])) ∷ []
 
 then-read : eventsOf (hello ∷ behind ∷ []) ≡ then-events
-unfolding then-events behind hello brings asks PUMP call eventIn eventOf readPdu byCommand capabilities badVersion byVersion charged numbered badLengthWidth afterNumber bytesAt little valueOf valueAt widthOf PDU-MAX
-then-read = refl
+unfolding then-events behind brings asks PUMP call eventIn eventOf readPdu byCommand numbered badLengthWidth afterNumber bytesAt little valueOf valueAt widthOf PDU-MAX
+then-read = with-hello (behind ∷ []) (Of 5 (Bring More (9 ∷ [])) ∷ []) refl
 
 then-roomy : Roomy paperStart then-events
 unfolding then-events paperStart readied stepped acted finished save wrote view viewAt roomIn roomAt numberPlace freePlace recordAt withRecord emptyTable holds isFree place act eventMeetsFull asksRoom fullTable PARTS

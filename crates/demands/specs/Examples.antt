@@ -26,8 +26,11 @@ unfoldable pub asks : List ℕ → Call
 asks pdu = call (receives PUMP pdu)
 
 -- a Capabilities request of version 3, with charges of 0
+unfoldable pub helloPdu : List ℕ
+helloPdu = 0x50 ∷ 0 ∷ 3 ∷ 0 ∷ 0 ∷ 0 ∷ 0 ∷ 0 ∷ 0 ∷ 0 ∷ 0 ∷ 0 ∷ []
+
 unfoldable pub hello : Call
-hello = asks (0x50 ∷ 0 ∷ 3 ∷ 0 ∷ 0 ∷ 0 ∷ 0 ∷ 0 ∷ 0 ∷ 0 ∷ 0 ∷ 0 ∷ [])
+hello = asks helloPdu
 
 -- a Create request for PUMP
 unfoldable pub opens : ℕ → Call
@@ -123,9 +126,11 @@ toldToFive =
 unfoldable pub alone : List Call
 alone = opens 5 ∷ []
 
+-- and then a message of a stranger's
 unfoldable pub behindSixteen : List Call
 behindSixteen =
     opens 1 ∷ opens 2 ∷ opens 3 ∷ opens 4 ∷ opens 6 ∷ opens 7 ∷ opens 8 ∷ opens 9
     ∷ opens 10 ∷ opens 11 ∷ opens 12 ∷ opens 13 ∷ opens 14 ∷ opens 15 ∷ opens 16 ∷ opens 17
     ∷ opens 5
+    ∷ brings 6 (7 ∷ 8 ∷ [])
     ∷ []
