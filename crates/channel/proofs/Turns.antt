@@ -11,6 +11,7 @@ use Rattle.lists.proofs.Cases.{choice, true-not-false}
 use Rattle.paper.specs.Statuses.{OPENED, UNLISTED, FULL}
 use Rattle.paper.specs.declared.Refusal.{Refusal}
 use Rattle.paper.specs.declared.Refusal.the-variants.{NotOpen, AlreadyOpen}
+use Rattle.channel.specs.declared.Stage.{Stage}
 use Rattle.channel.specs.declared.Record.{Record}
 use Rattle.channel.specs.declared.Offer.{Offer}
 use Rattle.channel.specs.declared.Took.{Took}
@@ -44,6 +45,7 @@ use Rattle.channel.specs.Channel.{
   partAfter,
   answerTo,
   landed,
+  rebuilt,
 }
 use Rattle.channel.specs.Turns.{
   turn,
@@ -236,3 +238,7 @@ module _ (level n : ℕ) (room : Bool) (row : Record) (own : row .taken ≡ true
   turn-says (Name listed pri) len = creates-says listed pri
   turn-says (Block offer) len = brings-says offer len
   turn-says (End local) len = closes-says local
+
+-- a record in another stage keeps the shore's mark
+pub rebuilt-awaited : (r : Record) (stage : Stage) (handed : Bool) → rebuilt r stage handed .awaited ≡ r .awaited
+rebuilt-awaited r stage handed = refl

@@ -24,12 +24,17 @@ pub enum Stage {
     Spoiled,
 }
 
-// A channel's record. A free one is not taken, and is as Start made it: number 0, class 0, idle, count 0.
+// A channel's record. It is taken while it holds a number, open or awaited. A free one is not taken, and is as Start made
+// it: number 0, class 0, idle, count 0, not awaited.
 pub struct Record {
     pub number: u32,
     pub stage: Stage,
-    pub class: u8,
+    // Whether the number only waits for its Create response: the shore's mark. The client end doesn't read it.
+    pub awaited: bool,
     pub taken: bool,
+    // A u32, so that no byte of a record is unused: where some are, the compiler carries fields two to a slot, and takes all
+    // sixteen records' apart and together again at every call.
+    pub class: u32,
     // The messages handed up since the opening, or COUNT_MAX once there.
     pub count: u32,
 }
@@ -230,11 +235,13 @@ fn class_at(level: u8, pri: u8) -> u8
 fn opened(level: u8, number: u32, pri: u8) -> Record
     ensures { λ r. ⌜ r ≡ openedRecord level number pri ⌝ }
 {
+    let class = class_at(level, pri) as u32;
     Record {
         number,
         stage: Stage::Idle,
-        class: class_at(level, pri),
+        awaited: false,
         taken: true,
+        class,
         count: 0,
     }
 }
@@ -291,8 +298,9 @@ fn rebuilt(row: Record, stage: Stage, handed: bool) -> Record
     Record {
         number: row.number,
         stage,
-        class: row.class,
+        awaited: row.awaited,
         taken: row.taken,
+        class: row.class,
         count: counted(row.count, handed),
     }
 }

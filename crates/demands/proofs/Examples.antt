@@ -21,7 +21,7 @@ use Rattle.channel.specs.declared.Answer.the-variants.{Opened, Declined, Messag
 use Rattle.channel.specs.Stages.{added, tookFirst, took}
 use Rattle.channel.specs.Channel.{Create, Bring, Garbled, Closing, LocalClose, openedRecord, restaged, opening, stageAfter}
 use Rattle.channel.specs.Channel.{partAfter, answerTo, landed, act}
-use Rattle.table.specs.Totals.{opens as opens-one, moved, changed}
+use Rattle.table.specs.Totals.{isOpen, opens as opens-one, moved, changed}
 use Rattle.table.specs.Table.{emptyTable, holds, isFree, numberPlace, freePlace, recordAt, placed, withRecord}
 use Rattle.connection.specs.States.{State, stateOf, viewAt, view, roomAt, roomIn, wrote, save}
 use Rattle.client.specs.Events.{Event, Unreadable, Capabilities, Of, createAct, unread, eventOf, isOf}
@@ -218,13 +218,13 @@ ends-in {xs = xs} r = ends-by justReady ready-calm xs ∙ rw (begins-there, r .r
 
 few-open : ends justReady besideFew .table .totals .channels ≡ 2
 unfolding few-events opened paperReady readied stepped acted finished save wrote view viewAt roomIn roomAt numberPlace freePlace
-    recordAt placed withRecord changed moved opens-one emptyTable holds isFree place act landed stageAfter partAfter answerTo restaged took
+    recordAt placed withRecord changed moved isOpen opens-one emptyTable holds isFree place act landed stageAfter partAfter answerTo restaged took
     tookFirst added opening openedRecord PARTS MESSAGE-MAX
 few-open = ap (λ (s : State). s .table .totals .channels) (ends-in few)
 
 many-open : ends justReady besideMany .table .totals .channels ≡ 16
 unfolding many-events opened paperReady readied stepped acted finished save wrote view viewAt roomIn roomAt numberPlace freePlace
-    recordAt placed withRecord changed moved opens-one emptyTable holds isFree place act landed stageAfter partAfter answerTo restaged took
+    recordAt placed withRecord changed moved isOpen opens-one emptyTable holds isFree place act landed stageAfter partAfter answerTo restaged took
     tookFirst added opening openedRecord PARTS MESSAGE-MAX
 many-open = ap (λ (s : State). s .table .totals .channels) (ends-in many)
 

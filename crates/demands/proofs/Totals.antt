@@ -14,7 +14,7 @@ use Rattle.channel.specs.declared.Record.{Record}
 use Rattle.channel.specs.Channel.{blank, View, Shut, Open}
 use Rattle.table.specs.declared.Table.{Table}
 use Rattle.table.specs.Table.{numberPlace, recordAt}
-use Rattle.table.specs.Totals.{opens, toCome, awaits, total, recount}
+use Rattle.table.specs.Totals.{isOpen, opens, toCome, awaits, total, recount}
 use Rattle.table.specs.Sound.{soundTable}
 use Rattle.table.proofs.Soundness.{sound-says, sound-empty, same-totals}
 use Rattle.connection.specs.States.{State, view}
@@ -23,12 +23,12 @@ use Rattle.connection.proofs.Putting.{past-blank}
 use Rattle.client.specs.Client.{badCall, received, locallyClosed, started}
 use Rattle.steps.specs.States.{Sane}
 use Rattle.steps.proofs.Calm.{receive-sound, local-close-sound}
-use Rattle.demands.specs.Totals.{rowOf}
+use Rattle.demands.specs.Totals.{rowOf, awaitedRow}
 
 pub for-example :
-    recount (rowOf true (Joining 10 4) ∷ rowOf true Idle ∷ rowOf true Spoiled ∷ rowOf false (Joining 10 4) ∷ [])
+    recount (rowOf true (Joining 10 4) ∷ rowOf true Idle ∷ rowOf true Spoiled ∷ rowOf false (Joining 10 4) ∷ awaitedRow (Joining 10 4) ∷ [])
     ≡ record { channels = 3; awaited = 6 }
-unfolding recount total opens awaits toCome
+unfolding recount total isOpen opens awaits toCome
 for-example = refl
 
 -- ---- after every call

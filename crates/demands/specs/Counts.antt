@@ -1,7 +1,7 @@
 -- Messages counted: "Each record gains that count: the messages handed up since the opening, staying at 4,294,967,295 once there."
 use Prim.Native.Nat.{ℕ, _+_, min}
 use mathlib.Core.Path.{_≡_}
-use mathlib.Core.Bool.{true}
+use mathlib.Core.Bool.{true, false}
 use mathlib.Core.List.{List, [], _∷_, _++_, map}
 use Rattle.paper.specs.Sizes.{COUNT-MAX}
 use Rattle.channel.specs.declared.Stage.the-variants.{Idle}
@@ -44,7 +44,7 @@ pub record Counts (n : ℕ) (st : State) (since : List Call) (count : ℕ) : Typ
 
 -- channel 5, idle, with a count and a part of the store
 abbrev pub idleWith : ℕ → List ℕ → View
-idleWith count part = Open (record { taken = true; number = 5; class = 0; stage = Idle; count = count }) part
+idleWith count part = Open (record { taken = true; number = 5; class = 0; stage = Idle; count = count; awaited = false }) part
 
 -- "staying at 4,294,967,295 once there": one short of it a message of one byte and then one of two are handed up
 pub record TheCeiling : Type 0 where

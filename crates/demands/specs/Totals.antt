@@ -17,13 +17,17 @@ use Rattle.client.specs.Client.{badCall, received, locallyClosed, started}
 
 -- a record, taken or not, in a stage
 abbrev pub rowOf : Bool → Stage → Record
-rowOf taken stage = record { taken = taken; number = 5; class = 0; stage = stage; count = 0 }
+rowOf taken stage = record { taken = taken; number = 5; class = 0; stage = stage; count = 0; awaited = false }
+
+-- the record of an awaited number
+abbrev pub awaitedRow : Stage → Record
+awaitedRow stage = record { taken = true; number = 6; class = 0; stage = stage; count = 0; awaited = true }
 
 pub record TotalsAreTheRecount : Type 0 where
   -- what the recount is, by an example: a channel of whose ten bytes four are held, an idle one and a spoiled one; a free record
-  -- adds nothing, whatever its stage
+  -- adds nothing, and an awaited one neither, whatever their stage
   pub for-example :
-      recount (rowOf true (Joining 10 4) ∷ rowOf true Idle ∷ rowOf true Spoiled ∷ rowOf false (Joining 10 4) ∷ [])
+      recount (rowOf true (Joining 10 4) ∷ rowOf true Idle ∷ rowOf true Spoiled ∷ rowOf false (Joining 10 4) ∷ awaitedRow (Joining 10 4) ∷ [])
       ≡ record { channels = 3; awaited = 6 }
   -- "After every call on a sound table, refusals included, they equal the full recount"
   pub receive :

@@ -69,7 +69,9 @@ pub enum Refusal {
     BadField,
     // 6: Create request with a listener list outside its rule.
     BadList,
-    // 7: Capabilities request when already ready; any other readable PDU or a local close when not ready.
+    // 7: Capabilities request when already ready; any other readable PDU or a local close when not ready. At the shore: a
+    // second request, a Capabilities response that is unasked or comes when ready; any other PDU, a local open or a local
+    // close when not ready.
     WrongTime,
     // 8: data or local close for a number that isn't open.
     NotOpen,
@@ -85,6 +87,10 @@ pub enum Refusal {
     IsSpoiled,
     // 14: cutting: the offset is not a start of a block.
     NoStart,
+    // 15: local open with sixteen numbers open or awaited.
+    AllTaken,
+    // 16: Create response for a number that isn't awaited.
+    NotAwaited,
     // 18: strict reading: wide number or Length, or ignored bits set.
     Loose,
 }
@@ -108,6 +114,8 @@ pub fn refusal_number(refusal: Refusal) -> u8
         Refusal::PastLength => 12,
         Refusal::IsSpoiled => 13,
         Refusal::NoStart => 14,
+        Refusal::AllTaken => 15,
+        Refusal::NotAwaited => 16,
         Refusal::Loose => 18,
     }
 }

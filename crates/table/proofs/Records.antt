@@ -96,7 +96,7 @@ pub number-holds : (n : ℕ) (t : Table) → numberPlace n t < length (t .record
 unfolding numberPlace recordAt
 number-holds n t h = place-passes (holds n) (t .records) blank h
 
--- a record that is found is open
+-- a record that is found is taken
 pub found-taken : (n : ℕ) (t : Table) (f : Found) → f ≡ foundIn n t → f .place < length (t .records) → f .row .taken ≡ true
 unfolding foundIn
 found-taken n t f e h = rw e (holds-says n _ (number-holds n t (rw e at h)) .0)

@@ -1,6 +1,6 @@
 -- The laws of the totals: of a walk from place to place, of one record's change, and how much they can be.
 -- Assumes nothing.
-use mathlib.Core.Path.{_≡_, refl, ap}
+use mathlib.Core.Path.{_≡_, refl, sym, ap}
 use mathlib.Core.Bool.{Bool, true, false, cond}
 use mathlib.Core.List.{List, [], _∷_}
 use Prim.Native.Nat.{ℕ, zero, suc, _+_, _-_, _*_, _%_, _≤_, _<_}
@@ -10,15 +10,15 @@ use borrow.Author.Tests.{eq-eqb, eqb-true, lt-ltb, le-leb, leb-true}
 use lib.Dec.{eqb, ltb, leb}
 use lib.ListN.{length, getD, set, drop, drop-of-length-le}
 use Rattle.paper.specs.Sizes.{MESSAGE-MAX}
-use Rattle.lists.proofs.Cases.{both}
+use Rattle.lists.proofs.Cases.{both, and-true, and-false}
 use Rattle.channel.specs.declared.Stage.{Stage}
 use Rattle.channel.specs.declared.Stage.the-variants.{Idle, Joining, Spoiled}
 use Rattle.channel.specs.declared.Record.{Record}
 use Rattle.channel.specs.Channel.{blank}
 use Rattle.table.specs.declared.Totals.{Totals}
-use Rattle.table.specs.Totals.{opens, toCome, awaits, total, moved, changed}
-use Rattle.table.specs.Sound.{goodStage}
-use Rattle.table.proofs.Every.{drop-next}
+use Rattle.table.specs.Totals.{isOpen, isAwaited, opens, toCome, awaits, total, moved, changed}
+use Rattle.table.specs.Sound.{some, goodStage}
+use Rattle.table.proofs.Every.{drop-next, none-at}
 
 module _ (of : Record → ℕ) where
   -- ---- a walk
@@ -82,7 +82,7 @@ changed-same totals r = rw (moved-same (totals .channels) (opens r), moved-same 
 
 pub opens-most : (r : Record) → opens r ≤ 1
 unfolding opens
-opens-most r = go (r .taken)
+opens-most r = go (isOpen r)
   where
     go : (t : Bool) → cond t 1 0 ≤ 1
     go true = omega arith
@@ -96,24 +96,44 @@ to-come-most Spoiled h = omega arith
 
 pub awaits-most : (r : Record) → goodStage (r .stage) ≡ true → awaits r ≤ MESSAGE-MAX
 unfolding awaits
-awaits-most r h = go (r .taken)
+awaits-most r h = go (isOpen r)
   where
     go : (t : Bool) → cond t (toCome (r .stage)) 0 ≤ MESSAGE-MAX
     go true = to-come-most (r .stage) h
     go false = omega arith
 
-pub opens-one : (r : Record) → r .taken ≡ true → opens r ≡ 1
-unfolding opens
-opens-one r h = rw h
+-- a free record is not open, and neither is an awaited one
+pub free-not-open : (r : Record) → r .taken ≡ false → isOpen r ≡ false
+unfolding isOpen
+free-not-open r t = rw t
 
--- a record that is not open adds nothing
+pub awaited-not-open : (r : Record) → r .awaited ≡ true → isOpen r ≡ false
+unfolding isOpen
+awaited-not-open r a = rw a (and-false (r .taken))
+
+-- a record that is not open adds nothing to either total
+pub not-open-adds : (r : Record) → isOpen r ≡ false → (opens r ≡ 0) × (awaits r ≡ 0)
+unfolding opens awaits
+not-open-adds r h = (rw h, rw h)
+
+-- a free record adds nothing
 pub opens-none : (r : Record) → r .taken ≡ false → opens r ≡ 0
-unfolding opens
-opens-none r h = rw h
+opens-none r h = not-open-adds r (free-not-open r h) .0
 
 pub awaits-none : (r : Record) → r .taken ≡ false → awaits r ≡ 0
-unfolding awaits
-awaits-none r h = rw h
+awaits-none r h = not-open-adds r (free-not-open r h) .1
+
+-- a record that is taken and awaited adds nothing to either total
+pub awaited-adds-nothing : (r : Record) → r .taken ≡ true → r .awaited ≡ true → (opens r ≡ 0) × (awaits r ≡ 0)
+awaited-adds-nothing r t a = not-open-adds r (awaited-not-open r a)
+
+-- whether a record is open, where no record is marked unless `marked` is true
+pub counts-open :
+    (rs : List Record) (marked : Bool) → (marked ≡ false → some isAwaited rs ≡ false) → (i : ℕ)
+    → cond marked (isOpen (getD rs i blank)) (getD rs i blank .taken) ≡ isOpen (getD rs i blank)
+unfolding isOpen
+counts-open rs true none i = refl
+counts-open rs false none i = rw (none-at isAwaited rs blank (none refl) refl i) (sym (and-true (getD rs i blank .taken)))
 
 -- ---- a record's stage is good, and it adds so much
 
@@ -125,24 +145,24 @@ none true = refl
 none false = refl
 
 pub idle-adds : (r : Record) → r .stage ≡ Idle → Adds r 0
-unfolding awaits toCome goodStage
-idle-adds r e = (rw e, rw e (none (r .taken)))
+unfolding isOpen awaits toCome goodStage
+idle-adds r e = (rw e, rw e (none (isOpen r)))
 
 pub spoiled-adds : (r : Record) → r .stage ≡ Spoiled → Adds r 0
-unfolding awaits toCome goodStage
-spoiled-adds r e = (rw e, rw e (none (r .taken)))
+unfolding isOpen awaits toCome goodStage
+spoiled-adds r e = (rw e, rw e (none (isOpen r)))
 
 module _ (r : Record) (wanted held : ℕ) (e : r .stage ≡ Joining wanted held) (less : held < wanted) (fits : wanted ≤ MESSAGE-MAX) where
   joining-good : goodStage (r .stage) ≡ true
   unfolding goodStage
   joining-good = rw (e, lt-ltb held wanted less, le-leb wanted MESSAGE-MAX fits)
 
-  pub joining-adds : r .taken ≡ true → Adds r (wanted - held)
+  pub joining-adds : isOpen r ≡ true → Adds r (wanted - held)
   unfolding awaits toCome
-  joining-adds t = (joining-good, rw (t, e))
+  joining-adds o = (joining-good, rw (o, e))
 
-  pub free-adds : r .taken ≡ false → Adds r 0
-  free-adds t = (joining-good, awaits-none r t)
+  pub not-open-joining-adds : isOpen r ≡ false → Adds r 0
+  not-open-joining-adds o = (joining-good, not-open-adds r o .1)
 
 -- records that add as much are changed alike
 pub changed-alike :

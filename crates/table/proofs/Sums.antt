@@ -1,4 +1,4 @@
--- A total over the records is the same in any two tables that have the same open channels, wherever they stand.
+-- A total over the records is the same in any two tables that have the same channels, wherever they stand.
 -- Assumes nothing.
 use mathlib.Core.Path.{_≡_, refl, sym, ap, _∙_}
 use mathlib.Core.Bool.{Bool, true, false}
@@ -46,7 +46,7 @@ taken-found n rs t =
     (λ (l : length rs ≤ place (holds n) rs). absurd (true-not-false (sym t ∙ ap (λ (r : Record). r .taken) (List·getD-eq-default rs blank l))))
     (lt-or-le (place (holds n) rs) (length rs))
 
--- where no number has a record, none is open
+-- where no number has a record, none is taken
 all-free : (rs : List Record) → ((n : ℕ) → recordOf n rs ≡ blank) → (i : ℕ) → getD rs i blank .taken ≡ false
 unfolding recordOf
 all-free rs h i = go (getD rs i blank .taken) refl

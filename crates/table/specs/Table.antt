@@ -12,22 +12,19 @@ use Rattle.channel.specs.Channel.{blank}
 use Rattle.table.specs.declared.Totals.{Totals}
 use Rattle.table.specs.declared.Table.{Table}
 use Rattle.table.specs.declared.Found.{Found}
-use Rattle.table.specs.Totals.{changed}
+use Rattle.table.specs.Totals.{isOpen, changed}
 
 -- "an empty table, not ready, all its numbers 0 and its stages idle"
 unfoldable pub emptyTable : Table
 unfolding PARTS
 emptyTable = record { totals = record { channels = 0; awaited = 0 }; ready = false; level = 0; records = replicate PARTS blank }
 
--- "A number is open while a record holds it, spoiled or not."
+-- "A number is open while a record holds it, spoiled or not." At the shore its record holds an awaited number too.
 unfoldable pub holds : ℕ → Record → Bool
 holds n r = r .taken && eqb (r .number) n
 
 unfoldable pub isFree : Record → Bool
 isFree r = not (r .taken)
-
-abbrev pub isOpen : Record → Bool
-isOpen r = r .taken
 
 -- the place of the record that holds the number, or the number of records where none does
 unfoldable pub numberPlace : ℕ → Table → ℕ

@@ -1,6 +1,7 @@
--- The totals that a table keeps: "open channels and bytes still to come over all joining channels".
+-- The totals that a table keeps: "open channels and bytes still to come over all joining channels". Awaited and free records
+-- add nothing to either total.
 use Prim.Native.Nat.{ℕ, _+_, _-_, _%_}
-use mathlib.Core.Bool.{cond}
+use mathlib.Core.Bool.{Bool, not, cond, _&&_}
 use mathlib.Core.List.{List, [], _∷_}
 use lib.Dec.{eqb}
 use Rattle.channel.specs.declared.Stage.{Stage}
@@ -10,9 +11,17 @@ use Rattle.table.specs.declared.Totals.{Totals}
 
 -- ---- the recount
 
+-- the record holds a number that is open: "An awaited number isn't open, though it has its record"
+unfoldable pub isOpen : Record → Bool
+isOpen r = r .taken && not (r .awaited)
+
+-- the record has the shore's mark
+abbrev pub isAwaited : Record → Bool
+isAwaited r = r .awaited
+
 -- what a record adds to the open channels
 unfoldable pub opens : Record → ℕ
-opens r = cond (r .taken) 1 0
+opens r = cond (isOpen r) 1 0
 
 -- of a message being joined, what is still to come
 unfoldable pub toCome : Stage → ℕ
@@ -22,7 +31,7 @@ toCome Spoiled = 0
 
 -- what a record adds to the bytes awaited
 unfoldable pub awaits : Record → ℕ
-awaits r = cond (r .taken) (toCome (r .stage)) 0
+awaits r = cond (isOpen r) (toCome (r .stage)) 0
 
 -- what all records add
 unfoldable pub total : (Record → ℕ) → List Record → ℕ

@@ -7,14 +7,14 @@ use channel::Stage;
 use paper::MESSAGE_MAX;
 use paper::PARTS;
 ghost use mathlib.Core.Path.{_≡_};
-ghost use mathlib.Core.Bool.{true, cond, _&&_};
+ghost use mathlib.Core.Bool.{true, false, cond, _&&_};
 ghost use Prim.Native.Nat.{_-_};
 ghost use lib.Dec.{eqb};
 ghost use lib.ListN.{drop};
 ghost use Rattle.channel.specs.Channel.{blank};
 ghost use Rattle.table.specs.Table.{emptyTable, holds, withRecord, freePlace, foundIn, openIn, homeIn};
 ghost use Rattle.table.specs.Table.{bitOf, siteOf, nextOf, totalsAfter, putBack};
-ghost use Rattle.table.specs.Totals.{opens, awaits, total, moved, changed};
+ghost use Rattle.table.specs.Totals.{isOpen, isAwaited, opens, awaits, total, moved, changed};
 ghost use Rattle.table.specs.Sound.{some, every, noNumberTwice, isStaged, goodSeat, goodLevel, soundTable};
 
 // What a host's status lamp shows. In a sound table it is what a recount of the records comes to.
@@ -47,8 +47,9 @@ pub fn blank() -> Record
     Record {
         number: 0,
         stage: Stage::Idle,
-        class: 0,
+        awaited: false,
         taken: false,
+        class: 0,
         count: 0,
     }
 }
@@ -69,11 +70,18 @@ pub fn empty() -> Table
     }
 }
 
-// Whether the record is open with the number.
+// Whether the record holds the number, open or awaited.
 fn holds(record: Record, number: u32) -> bool
     ensures { λ r. ⌜ r ≡ holds number «record» ⌝ }
 {
     record.number == number && record.taken
+}
+
+// Whether the record is open: it holds a number that isn't awaited.
+fn is_open(record: Record) -> bool
+    ensures { λ r. ⌜ r ≡ isOpen «record» ⌝ }
+{
+    record.taken & !record.awaited
 }
 
 // The search for the record that holds the number.
@@ -113,7 +121,7 @@ pub fn find_free(table: Table) -> usize
     k
 }
 
-// The lowest-numbered open record. Where none is open, the place is sixteen and the record a free one.
+// The lowest-numbered record that is open, and not awaited. Where none is open, the place is sixteen and the record a free one.
 pub fn find_open(table: Table) -> Found
     ensures { λ r. ⌜ r ≡ openIn table ⌝ }
 {
@@ -124,7 +132,7 @@ pub fn find_open(table: Table) -> Found
             break Found { place: k, row };
         }
         let row = table.records[k];
-        if row.taken {
+        if is_open(row) {
             break Found { place: k, row };
         }
         k += 1;
@@ -186,21 +194,21 @@ fn next_record(change: Change) -> Record
     }
 }
 
-// What an open record adds to the channels.
+// What a record adds to the channels: an open one itself, an awaited or a free one nothing.
 fn opens(record: Record) -> u32
     ensures { λ r. ⌜ r ≡ opens «record» ⌝ }
 {
-    if record.taken {
+    if is_open(record) {
         return 1;
     }
     0
 }
 
 // What a message of which `held` bytes of `wanted` are there adds to the bytes awaited, if its record is open.
-fn left(taken: bool, wanted: u16, held: u16) -> u32
-    ensures { λ r. ⌜ r ≡ cond taken (wanted - held) 0 ⌝ }
+fn left(counts: bool, wanted: u16, held: u16) -> u32
+    ensures { λ r. ⌜ r ≡ cond counts (wanted - held) 0 ⌝ }
 {
-    if !taken {
+    if !counts {
         return 0;
     }
     if wanted <= held {
@@ -213,11 +221,11 @@ fn left(taken: bool, wanted: u16, held: u16) -> u32
 fn awaits(record: Record) -> u32
     ensures { λ r. ⌜ r ≡ awaits «record» ⌝ }
 {
-    let taken = record.taken;
+    let counts = is_open(record);
     let stage = record.stage;
     match stage {
         Stage::Idle => 0,
-        Stage::Joining { wanted, held } => left(taken, wanted, held),
+        Stage::Joining { wanted, held } => left(counts, wanted, held),
         Stage::Spoiled => 0,
     }
 }
@@ -297,11 +305,11 @@ fn held_from(table: Table, k: usize, number: u32) -> bool
     false
 }
 
-// The marks that the open records' numbers fall on: a number's mark is its remainder by this.
+// The marks that the taken records' numbers fall on: a number's mark is its remainder by this.
 const MARKS: usize = 64;
 
-// Whether no two open records share a mark, and they are as many as the total says, in one pass from the last to the
-// first. Then no number stands in two.
+// Whether no two taken records share a mark, and the open ones are as many as the total says, in one pass from the last to
+// the first. Then no number stands in two.
 fn marks_apart(table: Table) -> bool
     ensures { λ r. ⌜ (r ≡ true → (noNumberTwice (table .records) ≡ true) × (total opens (table .records) ≡ table .totals .channels)) ⌝ }
 {
@@ -317,13 +325,13 @@ fn marks_apart(table: Table) -> bool
                 return false;
             }
             marks[mark] = true;
-            channels += 1;
+            channels += opens(record);
         }
     }
     channels == table.totals.channels
 }
 
-// Whether no number stands in two open records, each compared with those behind it.
+// Whether no number stands in two records open or awaited, each compared with those behind it.
 fn pairs_apart(table: Table) -> bool
     ensures { λ r. ⌜ r ≡ noNumberTwice (table .records) ⌝ }
 {
@@ -352,8 +360,8 @@ fn count(table: Table) -> u32
     channels
 }
 
-// Whether no number stands in two open records, and they are as many as the total says. Numbers that the server counts up
-// differ in their marks, and then no pair is compared.
+// Whether no number stands in two records open or awaited, and the open ones are as many as the total says. Numbers that
+// are counted up differ in their marks, and then no pair is compared.
 fn good_numbers(table: Table) -> bool
     ensures { λ r. ⌜ r ≡ (noNumberTwice (table .records) && eqb (table .totals .channels) (total opens (table .records))) ⌝ }
 {
@@ -366,7 +374,7 @@ fn good_numbers(table: Table) -> bool
     table.totals.channels == count(table)
 }
 
-// Whether each record has a class, and none is open when not ready.
+// Whether each record has a class, and none is open or awaited when not ready.
 fn good_seats(table: Table) -> bool
     ensures { λ r. ⌜ r ≡ every (goodSeat (table .ready)) (table .records) ⌝ }
 {
@@ -386,9 +394,35 @@ fn good_seats(table: Table) -> bool
     true
 }
 
+// Whether some record has the shore's mark.
+fn some_awaited(table: Table) -> bool
+    ensures { λ r. ⌜ r ≡ some isAwaited (table .records) ⌝ }
+{
+    let mut i = 0;
+    while i < PARTS {
+        let record = table.records[i];
+        if record.awaited {
+            return true;
+        }
+        i += 1;
+    }
+    false
+}
+
+// Whether the record is open, in a table of which it is known whether some record has the mark.
+fn counts(record: Record, marked: bool) -> bool
+    ensures { λ r. ⌜ r ≡ cond marked (isOpen «record») («record» .taken) ⌝ }
+{
+    if marked {
+        return is_open(record);
+    }
+    record.taken
+}
+
 // Whether each record's stage can stand in a sound table, a message being joined is not whole yet and fits a part, and
-// as many bytes are still to come over the open ones as the total says.
-fn good_stages(table: Table) -> bool
+// as many bytes are still to come over the open ones as the total says. Where no record is marked, `marked` may be false.
+fn stages(table: Table, marked: bool) -> bool
+    requires { ⌜ (marked ≡ false → some isAwaited (table .records) ≡ false) ⌝ }
     ensures { λ r. ⌜ r ≡ (every isStaged (table .records) && eqb (table .totals .awaited) (total awaits (table .records))) ⌝ }
 {
     let mut awaited = 0;
@@ -405,7 +439,7 @@ fn good_stages(table: Table) -> bool
                 if MESSAGE_MAX < wanted as usize {
                     return false;
                 }
-                if record.taken {
+                if counts(record, marked) {
                     awaited += (wanted - held) as u32;
                 }
             }
@@ -414,6 +448,17 @@ fn good_stages(table: Table) -> bool
         i += 1;
     }
     table.totals.awaited == awaited
+}
+
+// The same of any table. The pass is short enough for the compiler to write it out record by record only if it doesn't read
+// the mark. So the mark is looked for first; a client end's program, which never sets one, is compiled without that.
+fn good_stages(table: Table) -> bool
+    ensures { λ r. ⌜ r ≡ (every isStaged (table .records) && eqb (table .totals .awaited) (total awaits (table .records))) ⌝ }
+{
+    if some_awaited(table) {
+        return stages(table, true);
+    }
+    stages(table, false)
 }
 
 // Whether the level is 1 or 2, when ready.
@@ -427,7 +472,8 @@ fn good_level(ready: bool, level: u8) -> bool
 }
 
 // Whether the table is sound. The manager asks at every call, so each record is looked at three times and no more, unless
-// two numbers share a mark. The passes are short enough for the compiler to write each out, record by record.
+// two numbers share a mark; and a fourth time where a program sets the shore's mark. The passes are short enough for the
+// compiler to write each out, record by record.
 pub fn sound(table: Table) -> bool
     ensures { λ r. ⌜ r ≡ soundTable table ⌝ }
 {

@@ -1,5 +1,5 @@
 -- `table::find_open` meets its contract: no row before k is open.
-use mathlib.Core.Path.{_≡_}
+use mathlib.Core.Path.{_≡_, sym, _∙_}
 use Prim.Native.Nat.{_+_, _-_, _≤_}
 use lib.ListN.{length, drop}
 use Rattle.paper.specs.Sizes.{PARTS}
@@ -7,7 +7,8 @@ use Rattle.lists.specs.Places.{place}
 use Rattle.lists.proofs.Places.{search-hit, search-miss, search-end}
 use Rattle.lists.proofs.Arrays.{length-mapped}
 use Rattle.channel.specs.Channel.{blank}
-use Rattle.table.specs.Table.{isOpen, openPlace, recordAt}
+use Rattle.table.specs.Totals.{isOpen}
+use Rattle.table.specs.Table.{openPlace, recordAt}
 use Rattle.table.proofs.Records.{open-none, open-there}
 use borrow.Author.Needs.{needs}
 use native.Mathlib.Omega.{arith}
@@ -35,6 +36,9 @@ element-copy-out-row : tie.Need-element-copy-out-row Inv-loop μ-loop
 unfolding PARTS
 element-copy-out-row c = search needs
 
+is-open-requires : tie.Need-is-open-requires Inv-loop μ-loop
+is-open-requires c κs = search needs
+
 add-k : tie.Need-add-k Inv-loop μ-loop
 unfolding PARTS
 add-k c = search needs
@@ -46,8 +50,8 @@ loop-less c = search needs
 loop-again : tie.Need-loop-again Inv-loop μ-loop
 unfolding PARTS
 loop-again c =
-    let l = c .before .before .before .loop in
-    (omega arith, l .inv .1, search-miss _ _ (l .k) blank (omega arith) (c .if2 .left) (l .inv .2))
+    let l = c .before .before .before .before .loop in
+    (omega arith, l .inv .1, search-miss _ _ (l .k) blank (omega arith) (sym (c .before .is-open .ensures) ∙ c .if2 .left) (l .inv .2))
 
 returns : tie.Need-returns Inv-loop μ-loop
 unfolding PARTS openPlace
@@ -58,8 +62,8 @@ returns c =
 returns-2 : tie.Need-returns-2 Inv-loop μ-loop
 unfolding PARTS openPlace recordAt
 returns-2 c =
-    let l = c .before .before .before .loop in
-    open-there _ (l .k) (search-hit _ _ (l .k) blank (omega arith) (c .if2 .taken) (l .inv .2))
+    let l = c .before .before .before .before .loop in
+    open-there _ (l .k) (search-hit _ _ (l .k) blank (omega arith) (sym (c .before .is-open .ensures) ∙ c .if2 .taken) (l .inv .2))
 
 pub find-open-spec : {M : Type 1} → statement M
 find-open-spec =
@@ -71,6 +75,7 @@ find-open-spec =
     blank-requires
     mul-row
     element-copy-out-row
+    is-open-requires
     add-k
     loop-less
     loop-again

@@ -1,4 +1,4 @@
--- `table::good_seats` meets its contract: every record before i has a class, and none of them is open when not ready.
+-- `table::good_seats` meets its contract: every record before i has a class, and none of them is taken when not ready.
 use mathlib.Core.Path.{_≡_, refl, sym, _∙_}
 use mathlib.Core.Bool.{Bool, true, false}
 use mathlib.Core.Logic.{⊎-elim}
