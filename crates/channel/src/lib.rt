@@ -222,7 +222,7 @@ fn declines(number: u32, why: Decline, status: i32) -> Turn
 }
 
 // Class is Pri at level 2, and 0 at level 1.
-fn class_at(level: u8, pri: u8) -> u8
+pub fn class_at(level: u8, pri: u8) -> u8
     ensures { λ r. ⌜ r ≡ classAt level pri ⌝ }
 {
     if level == 2 {

@@ -158,7 +158,7 @@ pub fn closing(number: u32) -> Asked
 }
 
 // The reply, laid at the front of the buffer.
-fn lay(reply: &mut [u8], number: u32, what: Reply) -> usize
+pub fn lay(reply: &mut [u8], number: u32, what: Reply) -> usize
     ensures { λ r. ⌜ r ≡ length (replyTold number what) ⌝ }
     ensures { λ _. ⌜ now (reply .exit) ≡ laid (now (reply .entry)) 0 (replyTold number what) ⌝ }
 {
@@ -238,7 +238,7 @@ fn refused(table: Table) -> Received
 }
 
 // Refusal 1: the store or the reply buffer is not of its size, or the table is unsound.
-fn bad_call(table: Table, store: usize, reply: usize) -> bool
+pub fn bad_call(table: Table, store: usize, reply: usize) -> bool
     ensures { λ r. ⌜ r ≡ badCall table store reply ⌝ }
 {
     if store != paper::STORE {

@@ -98,7 +98,7 @@ landed-fits n room r b bytes h f (Finishes at len) g =
     (sym (other-stage n r Idle true) ∙ h, (length-laid b at bytes, rebuilt-fine r Idle true f refl))
 
 -- a view that stays fits
-stays-fits : (n : ℕ) (room : Room) (v : View) → Known n v → Fits n room v v
+pub stays-fits : (n : ℕ) (room : Room) (v : View) → Known n v → Fits n room v v
 stays-fits n room Shut k = tt
 stays-fits n room (Open r b) k = (k .0, (refl, k .1))
 

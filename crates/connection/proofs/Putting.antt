@@ -86,7 +86,7 @@ module _ (t : Table) (k : ℕ) (row : Record) (l : k < length (t .records)) (ope
   moved-there r =
       rw (changed-alike (t .totals) row (recordAt t k) r opened awaited, getD-set-same (t .records) k r blank l) refl
 
-  put-becomes : (r : Record) → putBack t (t .ready) (t .level) k row (Becomes r) ≡ withRecord t k r
+  pub put-becomes : (r : Record) → putBack t (t .ready) (t .level) k row (Becomes r) ≡ withRecord t k r
   unfolding putBack siteOf nextOf totalsAfter withRecord placed
   put-becomes r = rw (moved-there r) refl
 
@@ -118,7 +118,7 @@ module _ (n : ℕ) (t : Table) (store : List ℕ) (k : ℕ) (row : Record) (long
   within : k < length (t .records)
   within = rw long l
 
-  open-saved :
+  pub open-saved :
       (block : List ℕ) (turn : Turn) (new : View) → Comes row (part store k) block (turn .change) (turn .part) new
       → save n st (Open row (part store k)) new ≡ left t store k row block turn
   unfolding save wrote kept

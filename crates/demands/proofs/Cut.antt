@@ -2,7 +2,7 @@
 -- By induction on the calls of `cut`: before each the channel holds what the calls before it cut. The run may hold any events of other
 -- channels; it starts in any sound, ready state.
 -- Assumes nothing.
-use mathlib.Core.Path.{_≡_, refl, sym, ap, _∙_, subst}
+use mathlib.Core.Path.{_≡_, refl, sym, ap, _∙_}
 use mathlib.Core.Logic.{⊎-elim}
 use mathlib.Core.Bool.{Bool, true, false, not, cond}
 use mathlib.Core.List.{List, [], _∷_, _++_, map, append-assoc}
@@ -17,7 +17,7 @@ use Rattle.lists.specs.Bytes.{laid}
 use Rattle.lists.proofs.Cases.{lt-or-le, true-not-false}
 use Rattle.lists.proofs.Laid.{laid-eq, length-laid}
 use Rattle.numbers.specs.Numbers.{NUMBERS}
-use Rattle.reading.specs.Grammar.{data-first, data-block}
+use Rattle.reading.specs.Grammar.{data-first, data-block, Encodes}
 use Rattle.laying.proofs.Encoded.{data-encoded, data-first-encoded}
 use Rattle.channel.specs.declared.Record.{Record}
 use Rattle.channel.specs.declared.Stage.{Stage}
@@ -29,7 +29,7 @@ use Rattle.channel.specs.declared.Answer.the-variants.{Held, Message, Refused}
 use Rattle.channel.specs.declared.Took.{Took}
 use Rattle.channel.specs.declared.Took.the-variants.{Holds, Finishes}
 use Rattle.channel.specs.Stages.{added, tookFirst, took}
-use Rattle.channel.specs.Channel.{Bring, View, Open, Room, rebuilt, stageAfter, partAfter, answerTo, landed, act}
+use Rattle.channel.specs.Channel.{Bring, View, Open, Room, Did, rebuilt, stageAfter, partAfter, answerTo, landed, act}
 use Rattle.connection.specs.States.{State, view, roomIn, Steady}
 use Rattle.client.specs.Events.{Event, Unreadable, Capabilities, Of, isOf}
 use Rattle.client.specs.Client.{stepped}
@@ -83,7 +83,7 @@ own-in n st c g (Of m a) q z h =
     )
 
 -- any run from any steady state shows each channel so
-pub framed-steady : (n : ℕ) → Framed readCall after told around (isEventOf n) (view n) nextIn toldIn Steady
+pub framed-steady : (n : ℕ) → Framed readCall after told around (λ st. isEventOf n) (view n) nextIn toldIn Steady
 unfolding isEventOf
 framed-steady n = record {
   stays = λ st c g. rw (call-state st c (steady-sane st g)) (step-steady st g (eventIn (c .asked)) (fine-call (c .asked)));
@@ -103,23 +103,42 @@ message-small = lit< tt
 -- ---- the events of the cut PDUs
 
 module _ (n : ℕ) (m : List ℕ) (small-number : n < NUMBERS) (short-enough : length m ≤ MESSAGE-MAX) where
-  block-event :
-      (at : ℕ) (t : Bool) → isFirst (length m) at ≡ t
-      → eventOfPdu (cutPdu n m at) ≡ Of n (Bring (cond t (First (length m)) More) (block n m at))
-  unfolding eventOfPdu eventOfValue
-  block-event at true e =
-      let p = cut-first n m at e in
-      let fits = subst (λ (b : List ℕ). length b ≤ PDU-MAX) p (cut-fits n m at) in
-      rw p (encoded-event (data-first n (length m) (block n m at)) _ (data-first-encoded n small-number true (length m) (block n m at) (omega (arith, message-small))) fits [])
-  block-event at false e =
-      let p = cut-data n m at e in
-      let fits = subst (λ (b : List ℕ). length b ≤ PDU-MAX) p (cut-fits n m at) in
-      rw p (encoded-event (data-block n (block n m at)) _ (data-encoded n small-number true (block n m at)) fits [])
+  -- a cut PDU is an encoding of its block, at either end
+  pub block-encoded :
+      (fromServer : Bool) (at : ℕ) (t : Bool) → isFirst (length m) at ≡ t
+      → Encodes fromServer (cond t (data-first n (length m) (block n m at)) (data-block n (block n m at))) (cutPdu n m at)
+  block-encoded fromServer at true e =
+      rw (cut-first n m at e) (data-first-encoded n small-number fromServer (length m) (block n m at) (omega (arith, message-small)))
+  block-encoded fromServer at false e = rw (cut-data n m at e) (data-encoded n small-number fromServer (block n m at))
 
+  block-event : (at : ℕ) → eventOfPdu (cutPdu n m at) ≡ Of n (Bring (cond (isFirst (length m) at) (First (length m)) More) (block n m at))
+  unfolding eventOfPdu eventOfValue
+  block-event at = encoded-event _ (cutPdu n m at) (block-encoded true at (isFirst (length m) at) refl) (cut-fits n m at) [] ∙ go (isFirst (length m) at)
+    where
+      go :
+          (t : Bool)
+          → eventOfValue [] (cond t (data-first n (length m) (block n m at)) (data-block n (block n m at)))
+          ≡ Of n (Bring (cond t (First (length m)) More) (block n m at))
+      go true = refl
+      go false = refl
+
+-- ---- a machine of one number that takes cut blocks as the rules of an open channel do: next view, and what is told. A record may have to
+-- be `Ok`, and stays so in every stage
+
+abbrev pub landing : ℕ → List ℕ → ℕ → Record → List ℕ → Did
+landing n m at r part = landed n r part (block n m at) (took (r .stage) (cond (isFirst (length m) at) (First (length m)) More) (length (block n m at)))
+
+pub record Takes {E F O : Type 0} (n : ℕ) (m : List ℕ) (event : List ℕ → E) (next : F → View → E → View) (out : F → View → E → O)
+    (tell : Told → O) (Ok : Record → Type 0) : Type 0 where
+  pub kept : (r : Record) (s : Stage) (handed : Bool) → Ok r → Ok (rebuilt r s handed)
+  pub moves : (f : F) (at : ℕ) (r : Record) (part : List ℕ) → Ok r → next f (Open r part) (event (cutPdu n m at)) ≡ landing n m at r part .view
+  pub tells : (f : F) (at : ℕ) (r : Record) (part : List ℕ) → Ok r → out f (Open r part) (event (cutPdu n m at)) ≡ tell (toldBy (landing n m at r part))
+
+module _ (n : ℕ) (m : List ℕ) (short-enough : length m ≤ MESSAGE-MAX) where
   -- ---- a block that lands where the message stands
 
   -- the channel before the block at an offset: idle before the first, and joining with that many held before the others
-  abbrev StageAt : ℕ → Stage → Type 0
+  abbrev pub StageAt : ℕ → Stage → Type 0
   StageAt at Idle = at ≡ 0
   StageAt at (Joining wanted held) = (0 < at) × ((wanted ≡ length m) × (held ≡ at))
   StageAt at Spoiled = ⊥
@@ -210,84 +229,99 @@ module _ (n : ℕ) (m : List ℕ) (small-number : n < NUMBERS) (short-enough : l
 
   -- ---- call after call
 
-  -- one block: what is told, and the channel then
-  one-step :
-      (at : ℕ) (r : Record) (part : List ℕ) → length part ≡ PART → at ≤ length m → take at part ≡ take at m → StageAt at (r .stage)
-      → (f : Around) (e : Event) → e ≡ eventOfPdu (cutPdu n m at) → (t : Bool) → ltb (blockEnd n (length m) at) (length m) ≡ t
-      → (toldIn f (Open r part) e ≡ toldOnce (blockEnd n (length m) at) t) × (nextIn f (Open r part) e ≡ Open (rebuilt r (stageThen (blockEnd n (length m) at) t) (not t)) (laid part at (block n m at)))
-  unfolding act
-  one-step at r part long h same stands f e q t d =
-      let event = q ∙ block-event at (isFirst (length m) at) refl in
-      let lands = took-at at (r .stage) stands h (isFirst (length m) at) refl ∙ ap (λ (b : Bool). cond b (Holds (length m) at (blockEnd n (length m) at)) (Finishes at (length m))) d in
-      let l = landed-at at r part long h same t d in
-      rw event (ap (λ (k : Took). toldBy (landed n r part (block n m at) k)) lands ∙ l .0, ap (λ (k : Took). landed n r part (block n m at) k .view) lands ∙ l .1)
+  module _ {E F O : Type 0} {event : List ℕ → E} {next : F → View → E → View} {out : F → View → E → O} {tell : Told → O}
+      {Ok : Record → Type 0} (takes : Takes n m event next out tell Ok) where
+    -- one block: what is told, and the channel then
+    one-step :
+        (at : ℕ) (r : Record) (part : List ℕ) → length part ≡ PART → at ≤ length m → take at part ≡ take at m → StageAt at (r .stage) → Ok r
+        → (f : F) (e : E) → e ≡ event (cutPdu n m at) → (t : Bool) → ltb (blockEnd n (length m) at) (length m) ≡ t
+        → (out f (Open r part) e ≡ tell (toldOnce (blockEnd n (length m) at) t))
+        × (next f (Open r part) e ≡ Open (rebuilt r (stageThen (blockEnd n (length m) at) t) (not t)) (laid part at (block n m at)))
+    one-step at r part long h same stands ok f e q t d =
+        let lands = took-at at (r .stage) stands h (isFirst (length m) at) refl
+        ∙ ap (λ (b : Bool). cond b (Holds (length m) at (blockEnd n (length m) at)) (Finishes at (length m))) d in
+        let l = landed-at at r part long h same t d in
+        rw q (
+          takes .tells f at r part ok ∙ ap (λ (k : Took). tell (toldBy (landed n r part (block n m at) k))) lands ∙ ap tell (l .0),
+          takes .moves f at r part ok ∙ ap (λ (k : Took). landed n r part (block n m at) k .view) lands ∙ l .1,
+        )
 
-  -- what is shown of the calls from an offset on
-  record Followed (cs : List Cut) (r : Record) (outs : List Told) (w : View) : Type 0 where
-    pub is-told : outs ≡ map (toldFor n m) cs
-    pub part : List ℕ
-    pub idle : w ≡ Open (rebuilt r Idle true) part
+    -- what is shown of the calls from an offset on
+    pub record Followed (cs : List Cut) (r : Record) (outs : List O) (w : View) : Type 0 where
+      pub is-told : outs ≡ map (λ (c : Cut). tell (toldFor n m c)) cs
+      pub part : List ℕ
+      pub idle : w ≡ Open (rebuilt r Idle true) part
 
-  abbrev Rest : ℕ → List Cut → List (Input Event Around) → Type 0
-  Rest at cs is =
-      (r : Record) (part : List ℕ) → length part ≡ PART → take at part ≡ take at m → StageAt at (r .stage)
-      → Followed cs r (aloneOuts nextIn toldIn (Open r part) is) (aloneFinal nextIn (Open r part) is)
+    abbrev pub Rest : ℕ → List Cut → List (Input E F) → Type 0
+    Rest at cs is =
+        (r : Record) (part : List ℕ) → length part ≡ PART → take at part ≡ take at m → StageAt at (r .stage) → Ok r
+        → Followed cs r (aloneOuts next out (Open r part) is) (aloneFinal next (Open r part) is)
 
-  -- the last call
-  last-turn :
-      (at : ℕ) (c : Cut) → at ≤ length m → c .next ≡ blockEnd n (length m) at → length m ≤ c .next → (i : Input Event Around)
-      → i .event ≡ eventOfPdu (cutPdu n m at) → Rest at (c ∷ []) (i ∷ [])
-  last-turn at c h next end i head r part long same stands =
-      let d : ltb (blockEnd n (length m) at) (length m) ≡ false = le-ltb (blockEnd n (length m) at) (length m) (omega arith) in
-      let e : ltb (c .next) (length m) ≡ false = le-ltb (c .next) (length m) end in
-      let s = one-step at r part long h same stands (i .flag) (i .event) head false d in
-      record { is-told = rw (s .0, told-so c false e); part = laid part at (block n m at); idle = s .1 }
+    -- the last call
+    last-turn :
+        (at : ℕ) (c : Cut) → at ≤ length m → c .next ≡ blockEnd n (length m) at → length m ≤ c .next → (i : Input E F)
+        → i .event ≡ event (cutPdu n m at) → Rest at (c ∷ []) (i ∷ [])
+    last-turn at c h next-is end i head r part long same stands ok =
+        let d : ltb (blockEnd n (length m) at) (length m) ≡ false = le-ltb (blockEnd n (length m) at) (length m) (omega arith) in
+        let e : ltb (c .next) (length m) ≡ false = le-ltb (c .next) (length m) end in
+        let s = one-step at r part long h same stands ok (i .flag) (i .event) head false d in
+        record { is-told = rw (s .0, told-so c false e); part = laid part at (block n m at); idle = s .1 }
 
-  -- a call, and the calls behind it
-  turn :
-      (at : ℕ) (c : Cut) (cs : List Cut) → at ≤ length m → c .next ≡ blockEnd n (length m) at → c .next < length m
-      → (i : Input Event Around) (is : List (Input Event Around)) → i .event ≡ eventOfPdu (cutPdu n m at) → Rest (c .next) cs is
-      → Rest at (c ∷ cs) (i ∷ is)
-  turn at c cs h next below i is head later r part long same stands =
-      let d : ltb (blockEnd n (length m) at) (length m) ≡ true = lt-ltb (blockEnd n (length m) at) (length m) (omega arith) in
-      let e : ltb (c .next) (length m) ≡ true = lt-ltb (c .next) (length m) below in
-      let s = one-step at r part long h same stands (i .flag) (i .event) head true d in
-      let joining = Joining (length m) (blockEnd n (length m) at) in
-      let onward = end-from n (length m) at in
-      let beyond : 0 < c .next = omega (arith, end-after n (length m) at (omega arith)) in
-      let then-stands : StageAt (c .next) joining = (beyond, (refl, sym next)) in
-      let same-front : take (c .next) (laid part at (block n m at)) ≡ take (c .next) m = rw next (front-at at part long h same) in
-      let f = later (rebuilt r joining false) (laid part at (block n m at)) (length-laid part at (block n m at) ∙ long) same-front then-stands in
-      record {
-        is-told = rw (s .0, s .1, told-so c true e, next) (ap (λ (l : List Told). toldOnce (blockEnd n (length m) at) true ∷ l) (f .is-told));
-        part = f .part;
-        idle = rw (s .1) (f .idle);
-      }
+    -- a call, and the calls behind it
+    turn :
+        (at : ℕ) (c : Cut) (cs : List Cut) → at ≤ length m → c .next ≡ blockEnd n (length m) at → c .next < length m
+        → (i : Input E F) (is : List (Input E F)) → i .event ≡ event (cutPdu n m at) → Rest (c .next) cs is
+        → Rest at (c ∷ cs) (i ∷ is)
+    turn at c cs h next-is below i is head later r part long same stands ok =
+        let d : ltb (blockEnd n (length m) at) (length m) ≡ true = lt-ltb (blockEnd n (length m) at) (length m) (omega arith) in
+        let e : ltb (c .next) (length m) ≡ true = lt-ltb (c .next) (length m) below in
+        let s = one-step at r part long h same stands ok (i .flag) (i .event) head true d in
+        let joining = Joining (length m) (blockEnd n (length m) at) in
+        let onward = end-from n (length m) at in
+        let beyond : 0 < c .next = omega (arith, end-after n (length m) at (omega arith)) in
+        let then-stands : StageAt (c .next) joining = (beyond, (refl, sym next-is)) in
+        let same-front : take (c .next) (laid part at (block n m at)) ≡ take (c .next) m = rw next-is (front-at at part long h same) in
+        let long-then = length-laid part at (block n m at) ∙ long in
+        let f = later (rebuilt r joining false) (laid part at (block n m at)) long-then same-front then-stands (takes .kept r joining false ok) in
+        record {
+          is-told = rw (s .0, s .1, told-so c true e, next-is) (ap (λ (l : List O). tell (toldOnce (blockEnd n (length m) at) true) ∷ l) (f .is-told));
+          part = f .part;
+          idle = rw (s .1) (f .idle);
+        }
 
-  module _ (lent : ℕ → List ℕ) where
-    follow :
-        (at : ℕ) (cs : List Cut) → Cuts (λ o. cutAt n m o (lent o)) (λ o. cutBuffer n m o (lent o)) (length m) at cs
-        → (is : List (Input Event Around)) → eventsIn is ≡ cutEvents cs → Rest at cs is
-    follow at cs (last-one len next e end) [] q = let z : _≡_ {A = ℕ} 0 1 = cc in absurd (omega arith)
-    follow at cs (last-one len next e end) (i ∷ j ∷ is) q = let z : _≡_ {A = ℕ} 0 1 = cc in absurd (omega arith)
-    follow at cs (last-one len next e end) (i ∷ []) q =
-        let g = given n m at (lent at) len next e in
-        let head : i .event ≡ eventOfPdu (take len (cutBuffer n m at (lent at))) = cc in
-        last-turn at (cutOf (cutBuffer n m at (lent at)) len next) (start-within n (length m) at (g .start)) (g .ends) end i (head ∙ ap eventOfPdu (g .stands))
-    follow at cs (one-more len next rest e below k) [] q = let z : _≡_ {A = ℕ} 0 1 = cc in absurd (omega arith)
-    follow at cs (one-more len next rest e below k) (i ∷ is) q =
-        let g = given n m at (lent at) len next e in
-        let head : i .event ≡ eventOfPdu (take len (cutBuffer n m at (lent at))) = cc in
-        let tail : eventsIn is ≡ cutEvents rest = cc in
-        turn at (cutOf (cutBuffer n m at (lent at)) len next) rest (start-within n (length m) at (g .start)) (g .ends) below i is (head ∙ ap eventOfPdu (g .stands))
-        (follow next rest k is tail)
+    module _ (lent : ℕ → List ℕ) where
+      pub follow :
+          (at : ℕ) (cs : List Cut) → Cuts (λ o. cutAt n m o (lent o)) (λ o. cutBuffer n m o (lent o)) (length m) at cs
+          → (is : List (Input E F)) → eventsIn is ≡ map (λ (c : Cut). event (c .pdu)) cs → Rest at cs is
+      follow at cs (last-one len next-at e end) [] q = let z : _≡_ {A = ℕ} 0 1 = cc in absurd (omega arith)
+      follow at cs (last-one len next-at e end) (i ∷ j ∷ is) q = let z : _≡_ {A = ℕ} 0 1 = cc in absurd (omega arith)
+      follow at cs (last-one len next-at e end) (i ∷ []) q =
+          let g = given n m at (lent at) len next-at e in
+          let head : i .event ≡ event (take len (cutBuffer n m at (lent at))) = cc in
+          last-turn at (cutOf (cutBuffer n m at (lent at)) len next-at) (start-within n (length m) at (g .start)) (g .ends) end i (head ∙ ap event (g .stands))
+      follow at cs (one-more len next-at rest e below k) [] q = let z : _≡_ {A = ℕ} 0 1 = cc in absurd (omega arith)
+      follow at cs (one-more len next-at rest e below k) (i ∷ is) q =
+          let g = given n m at (lent at) len next-at e in
+          let head : i .event ≡ event (take len (cutBuffer n m at (lent at))) = cc in
+          let tail : eventsIn is ≡ map (λ (c : Cut). event (c .pdu)) rest = cc in
+          turn at (cutOf (cutBuffer n m at (lent at)) len next-at) rest (start-within n (length m) at (g .start)) (g .ends) below i is (head ∙ ap event (g .stands))
+          (follow next-at rest k is tail)
 
 -- ---- the theorem
 
 -- a call that isn't refused has a message of its size
-short-enough-for : (n : ℕ) (m : List ℕ) (lent : ℕ → List ℕ) (cs : List Cut) → CutByUs n m lent cs → length m ≤ MESSAGE-MAX
+pub short-enough-for : (n : ℕ) (m : List ℕ) (lent : ℕ → List ℕ) (cs : List Cut) → CutByUs n m lent cs → length m ≤ MESSAGE-MAX
 short-enough-for n m lent cs (last-one len next e end) = given n m 0 (lent 0) len next e .short-enough
 short-enough-for n m lent cs (one-more len next rest e below k) = given n m 0 (lent 0) len next e .short-enough
+
+-- the client's machine takes them
+takes-blocks : (n : ℕ) (m : List ℕ) → n < NUMBERS → length m ≤ MESSAGE-MAX → Takes n m eventOfPdu nextIn toldIn (λ t. t) (λ r. Unit {0})
+unfolding act
+takes-blocks n m small short = record {
+  kept = λ r s handed ok. tt;
+  moves = λ f at r part ok. ap (nextIn f (Open r part)) (block-event n m small short at);
+  tells = λ f at r part ok. ap (toldIn f (Open r part)) (block-event n m small short at);
+}
 
 pub cut-and-joined :
     (n : ℕ) (m : List ℕ) (lent : ℕ → List ℕ) (cs : List Cut) → n < NUMBERS → CutByUs n m lent cs
@@ -300,9 +334,9 @@ cut-and-joined n m lent cs small by st g r part v idle xs e =
     let is = seen after (isEventOf n) (withFlag readCall around) st xs in
     let short = short-enough-for n m lent cs by in
     let long : length part ≡ PART = kept-long n st g r part v in
-    let stands : StageAt n m small short 0 (r .stage) = rw idle refl in
+    let stands : StageAt n m short 0 (r .stage) = rw idle refl in
     let events : eventsIn is ≡ cutEvents cs = inputs-events readCall after around (isEventOf n) st xs ∙ e in
-    let f = follow n m small short lent 0 cs by is events r part long refl stands in
+    let f = follow n m short (takes-blocks n m small short) lent 0 cs by is events r part long refl stands tt in
     record {
       is-told = trace-outs (framed-steady n) st xs g ∙ ap (λ (w : View). aloneOuts nextIn toldIn w is) v ∙ f .is-told;
       part = f .part;

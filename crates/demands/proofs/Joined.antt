@@ -252,13 +252,13 @@ AllFine (e ∷ es) = FineBlock e × AllFine es
 
 -- ---- what is read in a PDU
 
-long-unread : (fromServer : Bool) (pdu : List ℕ) → PDU-MAX < length pdu → readPdu fromServer pdu ≡ Refused TooLong
+pub long-unread : (fromServer : Bool) (pdu : List ℕ) → PDU-MAX < length pdu → readPdu fromServer pdu ≡ Refused TooLong
 unfolding readPdu
 long-unread fromServer pdu h =
     let some : length pdu ≡ 0 → ⊥ = λ e. omega arith in
     simp (ne-eqb (length pdu) 0 some, lt-ltb PDU-MAX (length pdu) h)
 
-block-fits : (pdu : List ℕ) (p : Extent) → p .at + p .len ≡ length pdu → length pdu ≤ PDU-MAX → length (bytesAt pdu p) ≤ PART
+pub block-fits : (pdu : List ℕ) (p : Extent) → p .at + p .len ≡ length pdu → length pdu ≤ PDU-MAX → length (bytesAt pdu p) ≤ PART
 unfolding bytesAt
 block-fits pdu p h k = simp (length-take, length-drop) (omega (arith, pdu-part))
 

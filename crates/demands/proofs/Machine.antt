@@ -71,7 +71,7 @@ call-state st c s = rw (call-step st c s)
 
 -- ---- a run stays a run
 
-save-level : (n : ℕ) (st : State) (v w : View) → save n st v w .table .level ≡ st .table .level
+pub save-level : (n : ℕ) (st : State) (v w : View) → save n st v w .table .level ≡ st .table .level
 unfolding save wrote withRecord
 save-level n st Shut Shut = refl
 save-level n st Shut (Open r b) = refl
@@ -162,7 +162,7 @@ opening-up l n pri NoRoom st = refl
 opening-up l n pri (Spare p) st = refl
 
 -- a channel's answer speaks of that channel's message
-act-up :
+pub act-up :
     (l n : ℕ) (room : Room) (v : View) (a : Act) (st : State)
     → handedUp st (act l n room v a .answer) ≡ up (view n st) (act l n room v a .answer)
 unfolding act handedUp
@@ -199,7 +199,7 @@ unfolding opening REPLY-MIN
 opening-short l n pri NoRoom = response-short n FULL
 opening-short l n pri (Spare p) = response-short n OPENED
 
-act-short : (l n : ℕ) (room : Room) (v : View) (a : Act) → length (act l n room v a .reply) ≤ REPLY-MIN
+pub act-short : (l n : ℕ) (room : Room) (v : View) (a : Act) → length (act l n room v a .reply) ≤ REPLY-MIN
 unfolding act REPLY-MIN
 act-short l n room Shut BadCreate = omega arith
 act-short l n room Shut (Create true pri) = opening-short l n pri room
@@ -267,7 +267,7 @@ own-next l n st c g (Of m a) q z h =
       own-told st c (steady l st g) m a z q ∙ ap toldBy (ruled-flag l st g m a),
     )
 
-pub framed : (l n : ℕ) → Framed readCall after told meetsFull (isEventOf n) (view n) (chanNext l) (chanOut l) (Running l)
+pub framed : (l n : ℕ) → Framed readCall after told meetsFull (λ st. isEventOf n) (view n) (chanNext l) (chanOut l) (Running l)
 unfolding isEventOf meetsFull
 framed l n = record {
   stays = λ st c g. running-call l st c g;

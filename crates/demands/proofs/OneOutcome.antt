@@ -10,12 +10,12 @@ pub use Rattle.laying.proofs.One.{create-request-one as laying-create-request-o
 pub use Rattle.writing.proofs.One.{write-create-request-one as writing-write-create-request-one, write-create-response-one as writing-write-create-response-one, write-data-first-one as writing-write-data-first-one, write-data-one as writing-write-data-one, write-close-one as writing-write-close-one, write-capabilities-request-one as writing-write-capabilities-request-one, write-capabilities-response-one as writing-write-capabilities-response-one}
 pub use Rattle.cutting.proofs.One.{cut-one as cutting-cut-one, dvc-cut-one as cutting-dvc-cut-one}
 pub use Rattle.listeners.proofs.One.{good-one as listeners-good-one, listed-one as listeners-listed-one}
-pub use Rattle.channel.proofs.One.{take-one as channel-take-one, answers-one as channel-answers-one, garbles-one as channel-garbles-one, act-one as channel-act-one, concerns-one as channel-concerns-one, value-one as channel-value-one}
+pub use Rattle.channel.proofs.One.{take-one as channel-take-one, answers-one as channel-answers-one, garbles-one as channel-garbles-one, act-one as channel-act-one, concerns-one as channel-concerns-one, value-one as channel-value-one, class-at-one as channel-class-at-one}
 pub use Rattle.table.proofs.One.{blank-one as table-blank-one, empty-one as table-empty-one, find-number-one as table-find-number-one, find-free-one as table-find-free-one, find-open-one as table-find-open-one, find-one as table-find-one, put-one as table-put-one, sound-one as table-sound-one}
 pub use Rattle.store.proofs.One.{put-block-one as store-put-block-one, clear-part-one as store-clear-part-one}
 pub use Rattle.deciding.proofs.One.{decide-one as deciding-decide-one}
 pub use Rattle.connection.proofs.One.{keep-one as connection-keep-one, place-after-one as connection-place-after-one}
-pub use Rattle.client.proofs.One.{start-one as client-start-one, heard-one as client-heard-one, closing-one as client-closing-one, step-one as client-step-one, receive-one as client-receive-one, local-close-one as client-local-close-one, totals-one as client-totals-one}
+pub use Rattle.client.proofs.One.{start-one as client-start-one, heard-one as client-heard-one, closing-one as client-closing-one, step-one as client-step-one, receive-one as client-receive-one, local-close-one as client-local-close-one, totals-one as client-totals-one, bad-call-one as client-bad-call-one, lay-one as client-lay-one}
 pub use Rattle.lines.proofs.One.{field-one as lines-field-one, text-one as lines-text-one, header-one as lines-header-one, line-one as lines-line-one, cut-line-one as lines-cut-line-one, message-line-one as lines-message-line-one, reading-header-one as lines-reading-header-one, reading-line-one as lines-reading-line-one, totals-header-one as lines-totals-header-one, totals-line-one as lines-totals-line-one}
 pub use Rattle.records.proofs.One.{whole-one as records-whole-one, due-for-one as records-due-for-one}
 pub use Rattle.walking.proofs.One.{begin-one as walking-begin-one, turn-one as walking-turn-one}

@@ -47,7 +47,7 @@ no-number : (n level : ℕ) → PARTS ≡ numberPlace n (record { totals = empty
 unfolding numberPlace emptyTable PARTS place holds
 no-number n level = refl
 
-empty-shut :
+pub empty-shut :
     (n level : ℕ) (store : List ℕ) → view n (stateOf (record { totals = emptyTable .totals; ready = true; level = level; records = emptyTable .records }) store) ≡ Shut
 empty-shut n level store = view-shut n (stateOf (record { totals = emptyTable .totals; ready = true; level = level; records = emptyTable .records }) store) PARTS (no-number n level) (omega arith)
 
@@ -143,7 +143,7 @@ module _ (l : ℕ) (st : State) (g : Running l st) (n : ℕ) (xs : List Call) wh
 
   own-flags : flagsIn own ≡ fullFlags n st xs
   unfolding fullFlags own
-  own-flags = inputs-flags readCall after meetsFull (isEventOf n) st xs
+  own-flags = inputs-flags readCall after meetsFull (λ s. isEventOf n) st xs
 
   -- what it is told is what its own events give from where its joining stands, each with whether it met a full table
   pub told-with : toldTo n st xs ≡ toldWith (joinOf (view n st)) (ownEvents n xs) (fullFlags n st xs)

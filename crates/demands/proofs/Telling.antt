@@ -339,7 +339,7 @@ hands-once (StillToCome left) = refl
 hands-once (Complete message) = refl
 
 -- what it is told brings what the joining with flags brings
-told-brings : (n : ℕ) (full : Bool) (j : Join) (a : Act) → brought (toldIf full n j a) ≡ joinsIf full j a .brings
+pub told-brings : (n : ℕ) (full : Bool) (j : Join) (a : Act) → brought (toldIf full n j a) ≡ joinsIf full j a .brings
 unfolding toldIf saysIf joinsIf broughtBy handsUp
 told-brings n full j a = go (full && wantsRoom j a)
   where

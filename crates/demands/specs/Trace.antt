@@ -17,10 +17,14 @@ abbrev pub final : {S R : Type 0} → (S → R → S) → S → List R → S
 final next s [] = s
 final next s (x ∷ xs) = final next (next s x) xs
 
--- what `f` says of each input that passes the test, at the state that it meets
+-- what `f` says of each input that passes a test, both at the state that it meets
+abbrev pub seenAt : {S R A : Type 0} → (S → R → S) → (S → R → Bool) → (S → R → A) → S → List R → List A
+seenAt next on f s [] = []
+seenAt next on f s (x ∷ xs) = consIf (on s x) (f s x) (seenAt next on f (next s x) xs)
+
+-- the same by a test of the inputs alone
 abbrev pub seen : {S R A : Type 0} → (S → R → S) → (R → Bool) → (S → R → A) → S → List R → List A
-seen next on f s [] = []
-seen next on f s (x ∷ xs) = consIf (on x) (f s x) (seen next on f (next s x) xs)
+seen next on f s xs = seenAt next (λ t. on) f s xs
 
 -- no input of the run passes a test at the state that it meets
 abbrev pub Never : {S R : Type 0} → (S → R → S) → (S → R → Bool) → S → List R → Type 0

@@ -37,7 +37,7 @@ module _ (st : State) (g : Steady st) (free : FreeRecordsAreBlank st) where
       (λ w. w .1 ∙ free i q (ap (λ (x : Record). x .taken) (sym (w .1)) ∙ u))
       (at-any (st .table) k r (rw (g .rows) l) i)
 
-  save-blank : (n : ℕ) (v w : View) → view n st ≡ v → Fits n (roomIn st) v w → FreeRecordsAreBlank (save n st v w)
+  pub save-blank : (n : ℕ) (v w : View) → view n st ≡ v → Fits n (roomIn st) v w → FreeRecordsAreBlank (save n st v w)
   unfolding save
   save-blank n Shut Shut h f = free
   save-blank n Shut (Open r b) h f =

@@ -53,7 +53,7 @@ pub calm-start : Calm (stateOf emptyTable (zeros STORE))
 calm-start = record { sane = record { rows = empty-rows; bytes = length-zeros STORE; sound = sound-empty }; zero = λ k l u. zeros-part k l; blank = λ k l u. blank-start k l }
 
 -- the smaller of a version from 1 on and 2
-level-good : (version : ℕ) → 1 ≤ version → (min version 2 ≡ 1) ⊎ (min version 2 ≡ 2)
+pub level-good : (version : ℕ) → 1 ≤ version → (min version 2 ≡ 1) ⊎ (min version 2 ≡ 2)
 level-good version h = ⊎-elim (λ (l : version < 2). inl (omega arith)) (λ (l : 2 ≤ version). inr (omega arith)) (lt-or-le version 2)
 
 -- what holds of the next state in time and out of time holds of it

@@ -78,7 +78,7 @@ took-right Spoiled offer n = (refl, refl)
 -- ---- what reading refuses with: 2 to 5, which concern no channel and are none of the three
 
 -- a refusal of a garbled block is one of reading
-abbrev MildAct : Act → Type 0
+abbrev pub MildAct : Act → Type 0
 MildAct BadCreate = Unit {0}
 MildAct (Create listed pri) = Unit {0}
 MildAct (Bring offer bytes) = Unit {0}
@@ -86,12 +86,12 @@ MildAct (Garbled why) = ReadingRefusal why
 MildAct Closing = Unit {0}
 MildAct LocalClose = Unit {0}
 
-record OfReading (why : Refusal) : Type 0 where
+pub record OfReading (why : Refusal) : Type 0 where
   pub one : isOfReading why ≡ true
   pub not-three : isOfThree why ≡ false
   pub no-channel : ltb 7 (refusalNumber why) ≡ false
 
-of-reading : (why : Refusal) → ReadingRefusal why → OfReading why
+pub of-reading : (why : Refusal) → ReadingRefusal why → OfReading why
 unfolding isOfReading isOfThree
 of-reading BadCall h = absurd h
 of-reading CutShort h = record { one = refl; not-three = refl; no-channel = refl }
@@ -120,7 +120,7 @@ pub data Leaves (a : Act) (why : Refusal) : View → View → Type 0 where
   spoilt : {r : Record} {part : List ℕ} → spoils why a ≡ true → Leaves a why (Open r part) (Open (restaged r Spoiled) part)
 
 -- nothing is sent, and the refusal concerns whom it should
-record Quiet (n : ℕ) (a : Act) (v w : View) (reply : List ℕ) (why : Refusal) (concern : Concern) : Type 0 where
+pub record Quiet (n : ℕ) (a : Act) (v w : View) (reply : List ℕ) (why : Refusal) (concern : Concern) : Type 0 where
   pub silent : reply ≡ []
   pub leaves : Leaves a why v w
   pub concerns : concern ≡ concerned why (Of n a)
@@ -167,7 +167,7 @@ unfolding opening
 opening-answers level n pri NoRoom why concern e = let z : _≡_ {A = ℕ} 0 1 = cc in omega arith
 opening-answers level n pri (Spare p) why concern e = let z : _≡_ {A = ℕ} 0 1 = cc in omega arith
 
-act-quiet :
+pub act-quiet :
     (level n : ℕ) (room : Room) (v : View) (a : Act) (why : Refusal) (concern : Concern) → MildAct a
     → act level n room v a .answer ≡ Refused why concern
     → Quiet n a v (act level n room v a .view) (act level n room v a .reply) why concern
@@ -210,7 +210,7 @@ put-spoiled n st g r p h =
 
 -- the channel's rules, put back
 module _ (n : ℕ) (a : Act) (st : State) (g : Steady st) (why : Refusal) where
-  saved :
+  pub saved :
       (v w : View) → view n st ≡ v → Leaves a why v w
       → (save n st v w ≡ stateOf (leftBy why (Of n a) (st .table)) (st .store)) × (isOfThree why ≡ true → IsOpen (Of n a) (st .table))
   unfolding leftBy IsOpen isOpen save
@@ -233,7 +233,7 @@ refused-here st e x why concern s c l h =
     rw (← p) (record { silent = refl; concerns = sym q ∙ c; left = ap (λ (t : Table). stateOf t (st .store)) (sym l); one-channel = λ t. absurd (true-not-false (sym t ∙ s)) })
 
 -- ... in time or too early
-soon-says : (a : Act) → MildAct a → (isOfThree (tooSoon a) ≡ false) × (ltb 7 (refusalNumber (tooSoon a)) ≡ false)
+pub soon-says : (a : Act) → MildAct a → (isOfThree (tooSoon a) ≡ false) × (ltb 7 (refusalNumber (tooSoon a)) ≡ false)
 unfolding tooSoon isOfThree
 soon-says BadCreate m = (refl, refl)
 soon-says (Create listed pri) m = (refl, refl)
@@ -248,13 +248,13 @@ unfolding leftBy
 shut-left n a why t h = rw (h, and-false (spoils why a))
 
 -- and when not ready none is
-none-open : (n : ℕ) (t : Table) → length (t .records) ≡ PARTS → soundTable t ≡ true → t .ready ≡ false → isOpen t n ≡ false
+pub none-open : (n : ℕ) (t : Table) → length (t .records) ≡ PARTS → soundTable t ≡ true → t .ready ≡ false → isOpen t n ≡ false
 unfolding isOpen
 none-open n t rows sound e =
     let none = none-number n t (λ i. holds-none n (recordAt t i) (sound-says t sound .shut e i)) in
     le-ltb (numberPlace n t) PARTS (omega (arith, none, rows))
 
-time-kept : isOfThree WrongTime ≡ false
+pub time-kept : isOfThree WrongTime ≡ false
 unfolding isOfThree
 time-kept = refl
 
@@ -319,7 +319,7 @@ unfolding wholeOf
 whole-answer reply s e = rw e
 
 -- refusal 1 spoils nothing
-size-spoils : (a : Act) → spoils BadCall a ≡ false
+pub size-spoils : (a : Act) → spoils BadCall a ≡ false
 unfolding spoils isOfThree isOfReading
 size-spoils BadCreate = refl
 size-spoils (Create listed pri) = refl
@@ -340,7 +340,7 @@ size-concern (Unreadable w) = refl
 size-concern (Capabilities version) = refl
 size-concern (Of n a) = refl
 
-size-kept : isOfThree BadCall ≡ false
+pub size-kept : isOfThree BadCall ≡ false
 unfolding isOfThree
 size-kept = refl
 

@@ -132,31 +132,31 @@ module _ (level n : ℕ) (room : Room) (r : Record) (part : List ℕ) where
   says-create true false listed pri = refl
   says-create false false listed pri = refl
 
-  says-first :
+  pub says-first :
       (t : Bool) (len : ℕ) (bytes : List ℕ)
       → says t (Bring (First len) bytes) ≡ firstHeld (row NotOpen (not t) ∷ row IsSpoiled (isSpoiled (r .stage)) ∷ row StillJoining (isJoining (r .stage)) ∷ row OverLimit (ltb MESSAGE-MAX len) ∷ row PastLength (ltb len (length bytes)) ∷ [])
   unfolding act firstHeld
   says-first true len bytes = landed-verdict n r part bytes (took (r .stage) (First len) (length bytes)) ∙ first-verdict (r .stage) len (length bytes)
   says-first false len bytes = refuses-so NotOpen (Channel n)
 
-  says-data :
+  pub says-data :
       (t : Bool) (bytes : List ℕ) → goodStage (r .stage) ≡ true
       → says t (Bring More bytes) ≡ firstHeld (row NotOpen (not t) ∷ row IsSpoiled (isSpoiled (r .stage)) ∷ row PastLength (passes (r .stage) (length bytes)) ∷ [])
   unfolding act firstHeld
   says-data true bytes g = landed-verdict n r part bytes (took (r .stage) More (length bytes)) ∙ data-verdict (r .stage) (length bytes) g
   says-data false bytes g = refuses-so NotOpen (Channel n)
 
-  says-garbled : (t : Bool) (why : Refusal) → says t (Garbled why) ≡ refusedWith why
+  pub says-garbled : (t : Bool) (why : Refusal) → says t (Garbled why) ≡ refusedWith why
   unfolding act verdictOf
   says-garbled true why = refl
   says-garbled false why = refl
 
-  says-close : (t : Bool) → says t Closing ≡ firstHeld []
+  pub says-close : (t : Bool) → says t Closing ≡ firstHeld []
   unfolding act verdictOf firstHeld
   says-close true = refl
   says-close false = refl
 
-  says-local : (t : Bool) → says t LocalClose ≡ firstHeld (row NotOpen (not t) ∷ [])
+  pub says-local : (t : Bool) → says t LocalClose ≡ firstHeld (row NotOpen (not t) ∷ [])
   unfolding act verdictOf firstHeld
   says-local true = refl
   says-local false = refl
@@ -185,9 +185,27 @@ of-verdict st n a e =
     ∙ ap (λ (why : Refusal). cond (not (st .table .ready)) (refusedWith why) (verdictOf (act (st .table .level) n (roomIn st) (view n st) a .answer))) e
 
 -- a place within the PDU is as long as it says
-place-long : (pdu : List ℕ) (p : Extent) → p .at + p .len ≡ length pdu → length (bytesAt pdu p) ≡ p .len
+pub place-long : (pdu : List ℕ) (p : Extent) → p .at + p .len ≡ length pdu → length (bytesAt pdu p) ≡ p .len
 unfolding bytesAt
 place-long pdu p h = simp (length-take, length-drop) (omega arith)
+
+-- only what reading refuses has a refusal on it
+pub not-read : (p : Pdu) (why : Refusal) → verdictOn p ≡ refusedWith why → p ≡ Refused why
+not-read (CapsRequest version charges) why f = cc
+not-read (CreateRequest n class name) why f = cc
+not-read (DataFirst n len block) why f = cc
+not-read (Data n block) why f = cc
+not-read (Close n) why f = cc
+not-read (CreateResponse n status) why f = cc
+not-read (CapsResponse version) why f = cc
+not-read (Refused x) why f = cc
+
+-- rows and further rows: what the first rows come to, where they refuse, and else what the further ones do
+pub first-of :
+    {v w : Verdict} (rows more : List Row) → v ≡ firstHeld rows → (v ≡ fine → w ≡ firstHeld more)
+    → ((why : Refusal) → v ≡ refusedWith why → w ≡ refusedWith why) → w ≡ firstHeld (rows ++ more)
+first-of {v = fine} rows more e f g = f refl ∙ sym (held-behind rows more (sym e))
+first-of {v = refusedWith why} rows more e f g = g why refl ∙ sym (held-before rows more why (sym e))
 
 module _ (t : Table) (store list pdu : List ℕ) (sound : soundTable t ≡ true) where
   -- the channel with number n, as the searches find it
@@ -273,30 +291,14 @@ module _ (t : Table) (store list pdu : List ℕ) (sound : soundTable t ≡ true)
   step-verdict (CapsResponse version) h f = unreadable WrongTime
   step-verdict (Refused why) h f = let z : _≡_ {A = ℕ} 0 1 = cc in absurd (omega arith)
 
-  -- what reading refuses gets that refusal
-  unread-verdict :
-      (p : Pdu) (why : Refusal) → verdictOn p ≡ refusedWith why
-      → verdict (stepped (stateOf t store) (eventOf list pdu p)) ≡ refusedWith why
-  unfolding eventOf
-  unread-verdict (CapsRequest version charges) why f = let z : _≡_ {A = ℕ} 0 1 = cc in absurd (omega arith)
-  unread-verdict (CreateRequest n class name) why f = let z : _≡_ {A = ℕ} 0 1 = cc in absurd (omega arith)
-  unread-verdict (DataFirst n len block) why f = let z : _≡_ {A = ℕ} 0 1 = cc in absurd (omega arith)
-  unread-verdict (Data n block) why f = let z : _≡_ {A = ℕ} 0 1 = cc in absurd (omega arith)
-  unread-verdict (Close n) why f = let z : _≡_ {A = ℕ} 0 1 = cc in absurd (omega arith)
-  unread-verdict (CreateResponse n status) why f = let z : _≡_ {A = ℕ} 0 1 = cc in absurd (omega arith)
-  unread-verdict (CapsResponse version) why f = let z : _≡_ {A = ℕ} 0 1 = cc in absurd (omega arith)
-  unread-verdict (Refused x) why f = unread-says x (carries pdu) ∙ f
-
-  -- reading's rows first
+  -- reading's rows first: what reading refuses gets that refusal
   read-verdict :
       (p : Pdu) (rows : List Row) → Placed pdu p → verdictOn p ≡ firstHeld rows
       → verdict (stepped (stateOf t store) (eventOf list pdu p)) ≡ firstHeld (rows ++ rowsOf t list p)
-  read-verdict p rows h e = go (verdictOn p) refl
-    where
-      go :
-          (v : Verdict) → verdictOn p ≡ v → verdict (stepped (stateOf t store) (eventOf list pdu p)) ≡ firstHeld (rows ++ rowsOf t list p)
-      go fine f = step-verdict p h f ∙ sym (held-behind rows (rowsOf t list p) (sym e ∙ f))
-      go (refusedWith why) f = unread-verdict p why f ∙ sym (held-before rows (rowsOf t list p) why (sym e ∙ f))
+  unfolding eventOf
+  read-verdict p rows h e =
+      first-of rows (rowsOf t list p) e (step-verdict p h)
+      (λ why f. rw (not-read p why f) (unread-says why (carries pdu)))
 
   pub local-verdict :
       (n : ℕ)

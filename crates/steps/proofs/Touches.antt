@@ -63,10 +63,19 @@ unfolding act
 closes level n room v r b true h = rw h
 closes level n room v r b false h = rw h
 
+-- an open channel that is shut: its record is as Start made it, and its part is zero
+pub shut-frees :
+    (n : ℕ) (st : State) (g : Steady st) (r : Record) (b : List ℕ) → view n st ≡ Open r b
+    → (recordAt (save n st (Open r b) Shut .table) (numberPlace n (st .table)) ≡ blank) × (part (save n st (Open r b) Shut .store) (numberPlace n (st .table)) ≡ zeros PART)
+unfolding save wrote
+shut-frees n st g r b h =
+    let k = numberPlace n (st .table) in
+    let l = there-is n st g r b h in
+    (at-same (st .table) k blank (rw (g .rows) l), part-same (st .store) k (zeros PART) (length-zeros PART) (inside (st .store) k (there (st .store) k (g .bytes) l)))
+
 close-state :
     (n : ℕ) (st : State) (g : Steady st) (r : Record) (b : List ℕ) (local : Bool) → view n st ≡ Open r b
-    → stepped st (Of n (closeAct local)) .state ≡ wrote st (numberPlace n (st .table)) blank (zeros PART)
-unfolding save
+    → stepped st (Of n (closeAct local)) .state ≡ save n st (Open r b) Shut
 close-state n st g r b local h =
     step-state st g n (closeAct local)
     ∙ ap (save n st (view n st)) (closes (st .table .level) n (roomIn st) (view n st) r b local h)
@@ -76,11 +85,7 @@ close-state n st g r b local h =
 pub close-frees :
     (n : ℕ) (st : State) (g : Steady st) (r : Record) (b : List ℕ) (local : Bool) → view n st ≡ Open r b
     → (recordAt (stepped st (Of n (closeAct local)) .state .table) (numberPlace n (st .table)) ≡ blank) × (part (stepped st (Of n (closeAct local)) .state .store) (numberPlace n (st .table)) ≡ zeros PART)
-unfolding wrote
-close-frees n st g r b local h =
-    let k = numberPlace n (st .table) in
-    let l = there-is n st g r b h in
-    rw (close-state n st g r b local h) (at-same (st .table) k blank (rw (g .rows) l), part-same (st .store) k (zeros PART) (length-zeros PART) (inside (st .store) k (there (st .store) k (g .bytes) l)))
+close-frees n st g r b local h = rw (close-state n st g r b local h) (shut-frees n st g r b h)
 
 -- ---- the list
 

@@ -1,0 +1,9 @@
+pub mod Main
+pub mod Ties
+pub mod Queues
+pub mod Bytes
+pub mod Panel
+pub mod Shore
+pub mod Meeting
+pub mod Outcomes
+pub mod Examples

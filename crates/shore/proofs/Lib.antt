@@ -1,0 +1,5 @@
+pub mod Laws
+pub mod Asking
+pub mod Calls
+pub mod Deciding
+pub mod One

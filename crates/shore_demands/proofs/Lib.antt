@@ -1,0 +1,17 @@
+pub mod Main
+pub mod Least
+pub mod Frame
+pub mod Machine
+pub mod Telling
+pub mod Ready
+pub mod Orders
+pub mod Numbers
+pub mod Values
+pub mod Cut
+pub mod Refusals
+pub mod Leaves
+pub mod ReadBack
+pub mod Sound
+pub mod Totals
+pub mod Sanity
+pub mod OneOutcome
