@@ -1,6 +1,6 @@
 -- What each end's steps and the hosts put on the wire are encodings, which the other end takes for the event that they say.
 -- Assumes nothing.
-use mathlib.Core.Path.{_≡_, refl, ap, _∙_}
+use mathlib.Core.Path.{_≡_, refl}
 use mathlib.Core.Bool.{Bool, true, false}
 use mathlib.Core.List.{List, []}
 use Prim.Native.Nat.{ℕ, zero, suc, _^_, _≤_, _<_}
@@ -14,14 +14,10 @@ use Rattle.paper.specs.Sizes.{PDU-MAX, REPLY-MIN, MESSAGE-MAX}
 use Rattle.numbers.specs.Numbers.{NUMBERS, widthOf}
 use Rattle.numbers.proofs.Widths.{narrowest-le}
 use Rattle.reading.specs.Reading.{readPdu}
-use Rattle.reading.specs.Garbled.{carries}
 use Rattle.reading.specs.declared.Charges.{Charges}
-use Rattle.reading.specs.declared.Carried.{Carried}
-use Rattle.reading.specs.declared.Pdu.{Pdu}
-use Rattle.reading.specs.declared.Pdu.the-variants.{CreateRequest, CreateResponse, DataFirst, Data, Close, CapsRequest}
-use Rattle.reading.specs.declared.Pdu.the-variants.{CapsResponse, Refused}
+use Rattle.reading.specs.declared.Pdu.the-variants.{Data, Close}
 use Rattle.reading.specs.Grammar.{Value, create-request, create-response, data-first, data-block, close}
-use Rattle.reading.specs.Grammar.{capabilities-request, capabilities-response, Read, values, refusal, meant, readAs, Encodes}
+use Rattle.reading.specs.Grammar.{capabilities-request, capabilities-response, values, Encodes}
 use Rattle.reading.specs.Grammar.{InWidth, SmallCharges}
 use Rattle.reading.specs.Grammar.{create-request-is, create-response-is, data-first-is, data-is, close-is}
 use Rattle.reading.specs.Grammar.{capabilities-1-is, capabilities-is, capabilities-response-is}
@@ -40,10 +36,11 @@ use Rattle.lists.proofs.Cases.{choice}
 use Rattle.paper.proofs.Sizes.{twelve-fit}
 use Rattle.channel.specs.Turns.{OUR-VERSION}
 use Rattle.demands.specs.Cut.{Cut, Cuts, last-one, one-more, CutByUs}
-use Rattle.shore.specs.Events.{Event, unread, eventOf}
+use Rattle.shore.specs.Events.{eventOf}
 use Rattle.joined.specs.Ends.{HostData, data-first as is-first, data-more}
 use Rattle.joined.specs.Joined.{One-of, here, there}
-use Rattle.joined.proofs.Queues.{Sent, is-read, saidBy, downOf, upOf, responseOf}
+use Rattle.shore_demands.proofs.Values.{eventOfValue as saidBy, encoded-event}
+use Rattle.joined.proofs.Queues.{Sent, downOf, upOf, responseOf}
 
 -- ---- what the steps send
 
@@ -223,24 +220,6 @@ sent-within s = within (s .encodes)
 
 -- ---- the shore's event is what the values say
 
--- or what the refusal says
-abbrev saidIn : Carried → Read → Event
-saidIn carried (values v) = saidBy v
-saidIn carried (refusal why) = unread why carried
-
--- of whatever is read
-event-is : (pdu : List ℕ) (p : Pdu) → eventOf pdu p ≡ saidIn (carries pdu) (meant pdu p)
-unfolding eventOf
-event-is pdu (CreateRequest n class name) = refl
-event-is pdu (CreateResponse n status) = refl
-event-is pdu (DataFirst n len block) = refl
-event-is pdu (Data n block) = refl
-event-is pdu (Close n) = refl
-event-is pdu (CapsRequest version charges) = refl
-event-is pdu (CapsResponse version) = refl
-event-is pdu (Refused why) = refl
-
 -- of what is on its way
 pub shore-event : {pdu : List ℕ} (s : Sent false pdu) → eventOf pdu (readPdu false pdu) ≡ saidBy (s .value)
-unfolding readAs
-shore-event {pdu} s = event-is pdu (readPdu false pdu) ∙ ap (saidIn (carries pdu)) (is-read s)
+shore-event {pdu} s = encoded-event (s .value) pdu (s .encodes) (s .short-enough)

@@ -37,7 +37,8 @@ use Rattle.joined.specs.Ends.{Ends, post, atShore, atPanel, Move, ShoreR
 use Rattle.joined.specs.Ends.{ShoreSends, PanelSends, PanelTakes}
 use Rattle.joined.specs.Ends.{ShoreTakes, panelTakes, shoreTakes, move, HostData, Proper, AllProper, bothStarted, reached, hasView}
 use Rattle.joined.proofs.Ties.{Down, Up, tie}
-use Rattle.joined.proofs.Queues.{Sent, AllSent, sent-app, marks, marks-head, posted, sent-post, post-silent, saidBy, downOf, upOf, responseIn}
+use Rattle.shore_demands.proofs.Values.{eventOfValue as saidBy}
+use Rattle.joined.proofs.Queues.{Sent, AllSent, sent-app, marks, marks-head, posted, sent-post, post-silent, downOf, upOf, responseIn}
 use Rattle.joined.proofs.Queues.{responseOf, downs, ups, responses}
 use Rattle.joined.proofs.Bytes.{data-sent, data-silent, sent-within, shore-event}
 use Rattle.joined.proofs.Panel as at-the-panel

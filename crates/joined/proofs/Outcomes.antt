@@ -27,7 +27,8 @@ use Rattle.shore_demands.specs.Runs as shore
 use Rattle.shore_demands.proofs.Machine as shore-call
 use Rattle.joined.specs.Ends.{Ends, openView, hasView, openAtShore, openAtPanel}
 use Rattle.joined.proofs.Ties.{tie, stands, drained}
-use Rattle.joined.proofs.Queues.{AllSent, marks-head, saidBy, downOf, upOf, downs, ups}
+use Rattle.shore_demands.proofs.Values.{eventOfValue as saidBy}
+use Rattle.joined.proofs.Queues.{AllSent, marks-head, downOf, upOf, downs, ups}
 use Rattle.joined.proofs.Panel as at-the-panel
 use Rattle.joined.proofs.Panel.{fair}
 use Rattle.joined.proofs.Shore as at-the-shore

@@ -11,7 +11,6 @@ use lib.Dec.{eqb}
 use lib.ListN.{length}
 use Rattle.paper.specs.Sizes.{PDU-MAX}
 use Rattle.paper.specs.declared.Refusal.{Refusal}
-use Rattle.paper.specs.declared.Refusal.the-variants.{WrongTime}
 use Rattle.reading.specs.Reading.{readPdu}
 use Rattle.reading.specs.declared.Pdu.the-variants.{Refused}
 use Rattle.reading.specs.Grammar.{Value, create-request, create-response, data-first, data-block, close}
@@ -19,9 +18,8 @@ use Rattle.reading.specs.Grammar.{capabilities-request, capabilities-response, 
 use Rattle.reading.specs.Grammar.{create-request-is, create-response-is, data-first-is, data-is, close-is}
 use Rattle.reading.specs.Grammar.{capabilities-1-is, capabilities-is, capabilities-response-is}
 use Rattle.reading.proofs.Grammar.{every-encoding}
-use Rattle.channel.specs.declared.Offer.the-variants.{First, More}
-use Rattle.channel.specs.Channel.{Bring, Closing}
-use Rattle.shore.specs.Rules.{Answered, Acts, isBelowZero}
+use Rattle.shore_demands.proofs.Values.{eventOfValue as saidBy}
+use Rattle.shore.specs.Rules.{isBelowZero}
 use Rattle.shore.specs.Events.{Event, Unreadable, Asking, Response, Opening, Of}
 use Rattle.joined.specs.Ends.{post}
 use Rattle.joined.specs.Joined.{On-its-way, first, later}
@@ -150,16 +148,6 @@ upOf n (data-block m block) = []
 upOf n (close m) = cond (eqb m n) (Over ∷ []) []
 upOf n (capabilities-request version charges) = []
 upOf n (capabilities-response version) = []
-
--- what a value is an event of at the shore, and whether of a Capabilities response
-abbrev pub saidBy : Value → Event
-saidBy (create-request n class name) = Unreadable WrongTime
-saidBy (create-response n status) = Of n (Answered status)
-saidBy (data-first n len block) = Of n (Acts (Bring (First len) block))
-saidBy (data-block n block) = Of n (Acts (Bring More block))
-saidBy (close n) = Of n (Acts Closing)
-saidBy (capabilities-request version charges) = Unreadable WrongTime
-saidBy (capabilities-response version) = Response version
 
 -- the version of a response
 abbrev pub responseIn : Event → List ℕ

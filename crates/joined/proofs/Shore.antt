@@ -47,7 +47,8 @@ use Rattle.shore_demands.proofs.Frame.{waiting, next-shut, open-own}
 use Rattle.joined.specs.Ends.{post}
 use Rattle.joined.proofs.Ties.{Stand, Vacant, Waits, Opens, Down, Asks, Ends, Up, Yes, No, Over, tie, says, took}
 use Rattle.joined.proofs.Ties.{shore-takes, never-sixteen, shore-asks, shore-ends}
-use Rattle.joined.proofs.Queues.{Sent, AllSent, marks-post, post-sent, post-says, post-silent, none-either, saidBy, downOf, upOf, downs}
+use Rattle.shore_demands.proofs.Values.{eventOfValue as saidBy}
+use Rattle.joined.proofs.Queues.{Sent, AllSent, marks-post, post-sent, post-says, post-silent, none-either, downOf, upOf, downs}
 use Rattle.joined.proofs.Bytes.{close-sent, create-sent, request-sent, Within}
 use Rattle.joined.proofs.Panel.{fair, bring-fair, close-fair}
 

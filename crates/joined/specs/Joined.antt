@@ -6,7 +6,7 @@ use mathlib.Core.Logic.{_≢_}
 use mathlib.Core.Bool.{true, false}
 use mathlib.Core.List.{List, [], _∷_}
 use lib.ListN.{length, take}
-use Rattle.paper.specs.Sizes.{STORE, REPLY-MIN, PDU-MAX}
+use Rattle.paper.specs.Sizes.{STORE, REPLY-MIN}
 use Rattle.paper.specs.declared.Refusal.{Refusal}
 use Rattle.paper.specs.declared.Refusal.the-variants.{AlreadyOpen, NotAwaited}
 use Rattle.numbers.specs.Numbers.{NUMBERS}
@@ -26,7 +26,7 @@ use Rattle.demands.specs.Cut.{Cut, CutByUs}
 use Rattle.shore.specs.declared.Said.the-variants as said
 use Rattle.shore.specs.Shore.{stateIn}
 use Rattle.shore_demands.specs.Runs as shore
-use Rattle.joined.specs.Ends.{Ends, Move, AllProper, HostData, reached, openAtShore, openAtPanel}
+use Rattle.joined.specs.Ends.{Move, AllProper, HostData, reached, openAtShore, openAtPanel}
 
 -- a PDU stands in a queue
 pub data On-its-way (pdu : List ℕ) : List (List ℕ) → Type 0 where

@@ -29,7 +29,7 @@ use Rattle.channel.specs.declared.Part.the-variants.{Keeps, Clears}
 use Rattle.channel.specs.declared.Reply.{Reply}
 use Rattle.channel.specs.declared.Reply.the-variants.{NoReply}
 use Rattle.channel.specs.Answers.{concernOf}
-use Rattle.channel.specs.Channel.{blank, Act, BadCreate, Create, Bring, Garbled, Closing, LocalClose, View, Shut, Open, Room, NoRoom, Did, did, act}
+use Rattle.channel.specs.Channel.{blank, Act, BadCreate, Create, Bring, Garbled, Closing, LocalClose, View, Shut, Open, Room, NoRoom, did, act}
 use Rattle.channel.specs.Turns.{turn, answering, closing, bringing, turnOf, actOf, partTold, replyTold}
 use Rattle.channel.proofs.Turns.{Comes}
 use Rattle.table.specs.declared.Table.{Table}
@@ -52,7 +52,6 @@ use Rattle.client.specs.Client as steps
 use Rattle.deciding.proofs.Times.{unread, early, in-time as on-time}
 use Rattle.client.proofs.Steps.{in-time, too-early}
 use Rattle.client.proofs.Deciding.{decided-step as client-step}
-use Rattle.shore.specs.declared.Shore.{Shore}
 use Rattle.shore.specs.declared.Given.{Given}
 use Rattle.shore.specs.declared.Said.{Said}
 use Rattle.shore.specs.declared.Said.the-variants.{Ready, Opened, Declined, Refused}
@@ -61,7 +60,7 @@ use Rattle.shore.specs.declared.Matter.the-variants.{Unread, Caps, Statu
 use Rattle.shore.specs.declared.Decided.{Decided}
 use Rattle.shore.specs.Saying.{concernSaid, saidAs}
 use Rattle.shore.specs.Rules.{Deed, Answered, Acts, does, asOpen, unlessAwaited, sentFor, common, isBelowZero, settledRecord, settled, unawaited, deed}
-use Rattle.shore.specs.Events.{Event, Unreadable, Response, Of}
+use Rattle.shore.specs.Events.{Unreadable, Response, Of}
 use Rattle.shore.specs.Shore.{Standing, standing, withState, Stepped, stepTo, refused, levelBetween, readied, responded, finished, done, tooSoonFor, stepped, Gives}
 use Rattle.shore.proofs.Laws.{deed-acts, too-soon, not-awaited, declined, accepted}
 use Rattle.shore.specs.Asking.{told}

@@ -1,7 +1,7 @@
 -- What a call asks, as the code has it: the number, the matter, and where in the PDU the block lies. Nobody need believe this
 -- page: proofs/Asking shows that what is asked is the event.
 use Prim.Native.Nat.{ℕ}
-use mathlib.Core.Bool.{Bool, true, false}
+use mathlib.Core.Bool.{true, false}
 use mathlib.Core.List.{List}
 use Rattle.paper.specs.declared.Refusal.{Refusal}
 use Rattle.paper.specs.declared.Refusal.the-variants.{WrongTime}

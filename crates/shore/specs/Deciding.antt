@@ -1,10 +1,9 @@
 -- What a matter comes to at the shore, told with no bytes in hand. Nobody need believe this page: proofs/Deciding shows that
 -- what is decided, put back, is the step.
 use Prim.Native.Nat.{ℕ}
-use mathlib.Core.Bool.{Bool, true, false, cond, _&&_, _||_}
+use mathlib.Core.Bool.{Bool, true, cond, _&&_, _||_}
 use lib.Dec.{eqb}
 use lib.IntN.{ℤ}
-use Rattle.paper.specs.declared.Refusal.{Refusal}
 use Rattle.paper.specs.declared.Refusal.the-variants.{WrongTime, NotAwaited}
 use Rattle.channel.specs.declared.Record.{Record}
 use Rattle.channel.specs.declared.Concern.the-variants.{NoChannel, Channel}

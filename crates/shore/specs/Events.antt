@@ -1,8 +1,6 @@
 -- What the shore is asked: by a PDU of the client, and by its host.
 use Prim.Native.Nat.{ℕ}
-use mathlib.Core.Bool.{Bool, true, false}
 use mathlib.Core.List.{List}
-use lib.Dec.{eqb}
 use Rattle.paper.specs.declared.Refusal.{Refusal}
 use Rattle.paper.specs.declared.Refusal.the-variants.{WrongTime}
 use Rattle.reading.specs.Said.{bytesAt}
@@ -14,7 +12,7 @@ use Rattle.reading.specs.declared.Pdu.{Pdu}
 use Rattle.reading.specs.declared.Pdu.the-variants.{CreateRequest, CreateResponse, DataFirst, Data, Close}
 use Rattle.reading.specs.declared.Pdu.the-variants.{CapsRequest, CapsResponse, Refused}
 use Rattle.channel.specs.declared.Offer.the-variants.{First, More}
-use Rattle.channel.specs.Channel.{Bring, Garbled, Closing, LocalClose}
+use Rattle.channel.specs.Channel.{Bring, Garbled, Closing}
 use Rattle.shore.specs.Rules.{Deed, Answered, Acts}
 
 pub data Event : Type 0 where

@@ -1,9 +1,7 @@
 -- The number that a local open gets: "the smallest number from 1 up that no open or awaited channel has".
 use Prim.Native.Nat.{ℕ, zero, suc, _+_}
 use mathlib.Core.Bool.{cond}
-use mathlib.Core.List.{List}
 use lib.Dec.{ltb}
-use lib.ListN.{length}
 use Rattle.table.specs.declared.Table.{Table}
 use Rattle.table.specs.Table.{numberPlace}
 use Rattle.paper.specs.Sizes.{PARTS}

@@ -14,8 +14,7 @@ use Rattle.reading.specs.Reading.{readPdu}
 use Rattle.reading.specs.declared.Charges.{Charges}
 use Rattle.laying.specs.Laying.{createRequestBytes, capsRequestBytes}
 use Rattle.writing.specs.Writing.{badRequest, badCapabilities}
-use Rattle.channel.specs.declared.Concern.{Concern}
-use Rattle.channel.specs.declared.Concern.the-variants.{NoChannel, Channel}
+use Rattle.channel.specs.declared.Concern.the-variants.{NoChannel}
 use Rattle.channel.specs.Channel.{LocalClose, View, classAt}
 use Rattle.channel.specs.Turns.{OUR-VERSION}
 use Rattle.deciding.specs.Deciding.{tooSoon}
@@ -23,7 +22,7 @@ use Rattle.table.specs.declared.Table.{Table}
 use Rattle.table.specs.Table.{emptyTable, freePlace, withRecord}
 use Rattle.table.specs.Sound.{soundTable}
 use Rattle.connection.specs.States.{State, stateOf, view, save}
-use Rattle.client.specs.Client.{badCall, placeFor, storeStarted}
+use Rattle.client.specs.Client.{badCall, placeFor}
 use Rattle.client.specs.declared.Begun.the-variants.{Done, Refused as NotBegun}
 use Rattle.shore.specs.declared.Said.{Said}
 use Rattle.shore.specs.declared.Said.the-variants.{Asked, Ready, Awaited, Refused}

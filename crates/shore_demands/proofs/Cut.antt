@@ -46,7 +46,6 @@ asks n m at = Of n (Acts (Bring (cond (isFirst (length m) at) (First (length m))
 
 -- as it is read at this end
 block-event : (n : ℕ) (m : List ℕ) → n < NUMBERS → length m ≤ MESSAGE-MAX → (at : ℕ) → eventOfPdu (cutPdu n m at) ≡ asks n m at
-unfolding eventOfValue
 block-event n m small short at =
     encoded-event _ (cutPdu n m at) (block-encoded n m small short false at (isFirst (length m) at) refl) (cut-fits n m at) ∙ go (isFirst (length m) at)
   where

@@ -6,6 +6,7 @@ use Rattle.shore_demands.specs.Demands.{WhatItSendsIsReadBack, CutByUsIs
 use Rattle.shore_demands.specs.Demands.{EitherOrderIsTheSame, TotalsAreTheRecount}
 use Rattle.shore_demands.proofs.Least as least
 use Rattle.shore_demands.proofs.Frame as frame
+use Rattle.shore_demands.proofs.Machine as machine
 use Rattle.shore_demands.proofs.Ready as ready
 use Rattle.shore_demands.proofs.Sound as sound
 use Rattle.shore_demands.proofs.Refusals as refusals
@@ -28,6 +29,8 @@ any-order-of-calls =
       request = sound.request-sound;
       local-open = sound.local-open-sound;
       from-start = λ store size xs. ready.calm-run _ (ready.calm-started store size) xs;
+      no-refusal-1 = λ store size xs reply h. machine.not-bad _ (ready.calm-run _ (ready.calm-started store size) xs .sane) reply h;
+      nor-in-writing = λ store size xs out h. machine.not-bad-out _ (ready.calm-run _ (ready.calm-started store size) xs .sane) out h;
     }
 
 -- "Bad input gets the refusal number that the build paper lists for it."

@@ -21,7 +21,7 @@ use Rattle.shore.specs.Rules.{Answered, Acts}
 use Rattle.shore.specs.Events.{Event, Unreadable, Response, Of, unread, eventOf}
 
 -- the event is a function of the values alone
-unfoldable pub eventOfValue : Value → Event
+abbrev pub eventOfValue : Value → Event
 eventOfValue (create-request n pri name) = Unreadable WrongTime
 eventOfValue (create-response n status) = Of n (Answered status)
 eventOfValue (data-first n len block) = Of n (Acts (Bring (First len) block))
@@ -37,7 +37,7 @@ eventOfRead carried (refusal why) = unread why carried
 
 -- a PDU's event is that of what is meant by it
 event-is : (pdu : List ℕ) (p : Pdu) → eventOf pdu p ≡ eventOfRead (carries pdu) (meant pdu p)
-unfolding eventOf eventOfRead eventOfValue
+unfolding eventOf eventOfRead
 event-is pdu (CreateRequest n class name) = refl
 event-is pdu (CreateResponse n status) = refl
 event-is pdu (DataFirst n len block) = refl

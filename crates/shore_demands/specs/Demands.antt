@@ -3,18 +3,17 @@
 use Prim.Native.Nat.{ℕ, _≤_, _<_}
 use mathlib.Core.Path.{_≡_}
 use mathlib.Core.Logic.{_≢_}
-use mathlib.Core.Bool.{Bool, true, false, _&&_}
+use mathlib.Core.Bool.{true, false, _&&_}
 use mathlib.Core.List.{List, [], _∷_, _++_}
 use lib.ListN.{length, take}
-use Rattle.paper.specs.Sizes.{PARTS, PART, STORE}
+use Rattle.paper.specs.Sizes.{PARTS, PART, STORE, REPLY-MIN, PDU-MAX}
 use Rattle.paper.specs.Rows.{firstHeld, comesTo}
 use Rattle.paper.specs.declared.Refusal.{Refusal}
 use Rattle.lists.specs.Bytes.{zeros}
 use Rattle.numbers.specs.Numbers.{NUMBERS}
 use Rattle.reading.specs.Reading.{readPdu}
 use Rattle.reading.specs.declared.Charges.{Charges}
-use Rattle.reading.specs.Grammar.{Value, create-request, close, capabilities-request, values, readAs, SmallCharges}
-use Rattle.laying.specs.Laying.{createRequestBytes, closeBytes, capsRequestBytes}
+use Rattle.reading.specs.Grammar.{create-request, close, capabilities-request, values, readAs, SmallCharges}
 use Rattle.channel.specs.declared.Concern.{Concern}
 use Rattle.channel.specs.declared.Record.{Record}
 use Rattle.channel.specs.declared.Stage.the-variants.{Idle}
@@ -24,23 +23,22 @@ use Rattle.table.specs.Table.{emptyTable, numberPlace, recordAt}
 use Rattle.table.specs.Totals.{recount}
 use Rattle.table.specs.Sound.{soundTable}
 use Rattle.store.specs.Parts.{part}
-use Rattle.connection.specs.States.{State, view, Steady}
+use Rattle.connection.specs.States.{view, Steady}
 use Rattle.client.specs.Client.{badCall, storeStarted}
 use Rattle.steps.specs.Rows.{startRows, startOutcome}
 use Rattle.steps.specs.States.{Calm}
 use Rattle.demands.specs.Joining.{Off}
 use Rattle.demands.specs.Cut.{Cut, CutByUs}
 use Rattle.shore.specs.declared.Shore.{Shore}
-use Rattle.shore.specs.declared.Said.{Said}
 use Rattle.shore.specs.declared.Said.the-variants.{Asked, Awaited, Closed, Refused}
-use Rattle.shore.specs.Rules.{Deed, Answered, Acts, Does, deed}
+use Rattle.shore.specs.Rules.{Deed, Acts, deed}
 use Rattle.shore.specs.Numbers.{leastNumber}
-use Rattle.shore.specs.Events.{Event, Of, Opening, eventOf}
-use Rattle.shore.specs.Shore.{Standing, standing, stateIn, numberNext, stepped, badOut, received, locallyClosed}
+use Rattle.shore.specs.Events.{Event, Of, eventOf}
+use Rattle.shore.specs.Shore.{Standing, stateIn, stepped, badOut, received, locallyClosed}
 use Rattle.shore.specs.Shore.{requested, locallyOpened, started, allTaken}
-use Rattle.shore_demands.specs.Runs.{Call, after, told, toldTo, ends, eventIn, granted, isOf, isEventOf, ownEvents}
+use Rattle.shore_demands.specs.Runs.{Call, after, told, toldTo, ends, eventIn, isOf, isEventOf, ownEvents}
 use Rattle.shore_demands.specs.Runs.{startedOn, JustReady, Running}
-use Rattle.shore_demands.specs.Alone.{Link, As, toldAlone}
+use Rattle.shore_demands.specs.Alone.{As, toldAlone}
 use Rattle.shore_demands.specs.Rows.{outcomeSaid, receiveRows, requestRows, openRows, closeRows}
 use Rattle.shore_demands.specs.Refused.{RefusedCall, RefusedSending}
 use Rattle.shore_demands.specs.Orders.{TwoOrders, SameEitherWay, SameAtTheEnd, toldOpening, controls, isControl}
@@ -65,6 +63,13 @@ pub record AnyOrderOfCalls : Type 0 where
       → soundTable (s .table) ≡ true → soundTable (locallyOpened s name class out .result .shore .table) ≡ true
   -- from Start, after any calls, ready or not: sixteen records, a sound table, and what is free as Start made it
   pub from-start : (store : List ℕ) → length store ≡ STORE → (xs : List Call) → Calm (stateIn (ends (startedOn store) xs))
+  -- so that no call with a proper buffer meets refusal 1
+  pub no-refusal-1 :
+      (store : List ℕ) → length store ≡ STORE → (xs : List Call) (reply : List ℕ) → REPLY-MIN ≤ length reply
+      → badCall (ends (startedOn store) xs .shore .table) (length (ends (startedOn store) xs .store)) (length reply) ≡ false
+  pub nor-in-writing :
+      (store : List ℕ) → length store ≡ STORE → (xs : List Call) (out : List ℕ) → PDU-MAX ≤ length out
+      → badOut (ends (startedOn store) xs .shore .table) (length out) ≡ false
 
 -- "Bad input gets the refusal number that the build paper lists for it."
 pub record BadInputGetsItsNumber : Type 0 where

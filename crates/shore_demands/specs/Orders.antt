@@ -10,7 +10,7 @@ use Rattle.demands.specs.Orders.{SameButPlaces}
 use Rattle.shore.specs.Rules.{Answered, Acts}
 use Rattle.shore.specs.Events.{Event, Unreadable, Asking, Response, Opening, Of}
 use Rattle.shore.specs.Shore.{Standing, stateIn}
-use Rattle.shore_demands.specs.Runs.{Call, after, told, Told, eventIn, ownEvents, toldTo, ends}
+use Rattle.shore_demands.specs.Runs.{Call, after, told, Told, eventIn, ownEvents, toldTo}
 use Rattle.shore_demands.specs.Alone.{As, linkAll, brought, handed}
 
 -- "local opens, Create responses and closes of either kind"

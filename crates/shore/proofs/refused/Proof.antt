@@ -1,7 +1,6 @@
 -- `shore::refused` meets its contract: what came in, and refusal 1.
 use mathlib.Core.Path.{refl}
 use Rattle.paper.specs.Sizes.{PARTS}
-use borrow.Author.Needs.{needs}
 use Rattle.shore.proofs.refused.Statement.{statement}
 use Rattle.shore.proofs.refused.Tie as tie
 

@@ -3,7 +3,6 @@ use mathlib.Core.Path.{refl, sym, _∙_}
 use denote.Ref.{now}
 use Rattle.paper.specs.declared.Refusal.the-variants.{BadCall, WrongTime}
 use Rattle.shore.specs.declared.Said.the-variants.{Asked}
-use Rattle.shore.specs.Shore.{requested}
 use Rattle.shore.proofs.Calls.{request-refuses, unsent, roomy, requests, second, write-refused, write-sent, gives-sent}
 use borrow.Author.Needs.{needs}
 use Rattle.shore.proofs.request.Statement.{statement}

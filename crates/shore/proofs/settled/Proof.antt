@@ -1,7 +1,6 @@
 -- `shore::settled` meets its contract: the record of an open channel, idle.
 use mathlib.Core.Path.{refl}
 use Rattle.shore.specs.Rules.{settledRecord}
-use borrow.Author.Needs.{needs}
 use Rattle.shore.proofs.settled.Statement.{statement}
 use Rattle.shore.proofs.settled.Tie as tie
 

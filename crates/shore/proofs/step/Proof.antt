@@ -1,5 +1,5 @@
 -- `shore::step` meets its contract: refusal 1 stands in front, and behind it the step is given.
-use mathlib.Core.Path.{sym, ap, _∙_}
+use mathlib.Core.Path.{sym, _∙_}
 use denote.Ref.{now}
 use lib.ListN.{length}
 use Rattle.paper.specs.declared.Refusal.the-variants.{BadCall}
