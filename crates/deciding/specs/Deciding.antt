@@ -16,7 +16,7 @@ use Rattle.deciding.specs.declared.Matter.{Matter}
 use Rattle.deciding.specs.declared.Matter.the-variants.{Unread, Caps, Asks}
 use Rattle.deciding.specs.declared.Decided.{Decided}
 
--- 7: "Capabilities request when already ready; any other readable PDU or a local close when not ready"
+-- 7, at the client end: "Capabilities request when already ready; any other readable PDU or a local close when not ready"
 abbrev pub unlessReady : {A : Type 0} → Bool → (Refusal → A) → A → A
 unlessReady ready refuse goes = cond ready (refuse WrongTime) goes
 
