@@ -34,6 +34,7 @@ ghost use Rattle.reading.specs.Reading.{readPdu};
 ghost use Rattle.reading.specs.Garbled.{carries};
 ghost use Rattle.channel.specs.Turns.{replyTold};
 ghost use Rattle.table.specs.Sound.{soundTable};
+ghost use Rattle.deciding.specs.Deciding.{decidedOf as decidedBy};
 ghost use Rattle.client.specs.Client.{storeStarted, placeIf};
 ghost use Rattle.shore.specs.Saying.{concernSaid, numberSaid, saidAs};
 ghost use Rattle.shore.specs.Rules.{isBelowZero, awaitedRecord, settledRecord};
@@ -410,6 +411,21 @@ fn common(decided: deciding::Decided, reply: Reply) -> Decided
     }
 }
 
+// What the rules that both ends have in common decide, with an awaited number seen as one that isn't open.
+fn decides(
+    ready: bool,
+    level: u8,
+    number: u32,
+    room: bool,
+    row: Record,
+    matter: deciding::Matter,
+    n: usize,
+) -> deciding::Decided
+    ensures { λ r. ⌜ r ≡ decidedBy ready level number room (seenRow row) matter n ⌝ }
+{
+    deciding::decide(ready, level, number, room, seen(row), matter, n)
+}
+
 // What a matter comes to, with a block of n bytes beside it.
 fn decide(
     asked: u16,
@@ -425,41 +441,24 @@ fn decide(
 {
     match matter {
         Matter::Unread { why, whole } => {
-            let decided = deciding::decide(
-                ready,
-                level,
-                number,
-                room,
-                seen(row),
-                deciding::Matter::Unread { why, whole },
-                n,
-            );
-            common(decided, Reply::NoReply)
+            let asks = deciding::Matter::Unread { why, whole };
+            common(
+                decides(ready, level, number, room, row, asks, n),
+                Reply::NoReply,
+            )
         }
         Matter::Caps(version) => respond(asked, ready, level, version),
         Matter::Status(status) => settle(ready, level, number, row, status),
         Matter::Block(offer) => {
-            let decided = deciding::decide(
-                ready,
-                level,
-                number,
-                room,
-                seen(row),
-                deciding::Matter::Asks(Ask::Block(offer)),
-                n,
-            );
-            common(decided, Reply::NoReply)
+            let asks = deciding::Matter::Asks(Ask::Block(offer));
+            common(
+                decides(ready, level, number, room, row, asks, n),
+                Reply::NoReply,
+            )
         }
         Matter::End { local } => {
-            let decided = deciding::decide(
-                ready,
-                level,
-                number,
-                room,
-                seen(row),
-                deciding::Matter::Asks(Ask::End { local }),
-                n,
-            );
+            let asks = deciding::Matter::Asks(Ask::End { local });
+            let decided = decides(ready, level, number, room, row, asks, n);
             let turn = decided.turn;
             let reply = turn.reply;
             common(decided, reply_if(local, reply))

@@ -9,7 +9,7 @@ use Rattle.shore.proofs.decide.Tie as tie
 
 returns : tie.Need-returns
 unfolding decidedOf
-returns c = rw (c .before .before .before .before .matter .given .1) (c .common .ensures ∙ rw (c .before .decide .ensures, c .before .before .seen .ensures))
+returns c = rw (c .before .before .before .matter .given .1) (c .common .ensures ∙ rw (c .before .decides .ensures))
 
 returns-2 : tie.Need-returns-2
 unfolding decidedOf
@@ -21,17 +21,17 @@ returns-3 c = rw (c .before .before .matter3 .given .1) (c .settle .ensures ∙ 
 
 returns-4 : tie.Need-returns-4
 unfolding decidedOf
-returns-4 c = rw (c .before .before .before .before .matter4 .given .1) (c .common2 .ensures ∙ rw (c .before .decide2 .ensures, c .before .before .seen2 .ensures))
+returns-4 c = rw (c .before .before .before .matter4 .given .1) (c .common2 .ensures ∙ rw (c .before .decides2 .ensures))
 
 returns-5 : tie.Need-returns-5
 unfolding decidedOf
-returns-5 c = rw (c .before .before .before .before .before .before .matter5 .given .1) (c .common3 .ensures ∙ rw (c .before .reply-if .ensures, c .before .before .before .decide3 .ensures, c .before .before .before .before .seen3 .ensures))
+returns-5 c = rw (c .before .before .before .before .before .matter5 .given .1) (c .common3 .ensures ∙ rw (c .before .reply-if .ensures, c .before .before .before .decides3 .ensures))
 
 pub decide-spec : {M : Type 1} → statement M
 decide-spec =
     tie.close
     (tie.spec
-    (λ c. search needs) (λ c κs. search needs) (λ c κs. search needs) (λ c κs. search needs) (λ c. search needs)
-    (λ c κs. search needs) (λ c. search needs) (λ c κs. search needs) (λ c. search needs) (λ c κs. search needs)
-    (λ c κs. search needs) (λ c κs. search needs) (λ c. search needs) (λ c κs. search needs) (λ c κs. search needs)
-    (λ c κs. search needs) (λ c κs. search needs) returns returns-2 returns-3 returns-4 returns-5)
+    (λ c. search needs) (λ c κs. search needs) (λ c κs. search needs) (λ c. search needs) (λ c κs. search needs)
+    (λ c. search needs) (λ c κs. search needs) (λ c. search needs) (λ c κs. search needs) (λ c κs. search needs)
+    (λ c. search needs) (λ c κs. search needs) (λ c κs. search needs) (λ c κs. search needs) returns returns-2
+    returns-3 returns-4 returns-5)
