@@ -6,6 +6,7 @@ use denote.Ref.{now}
 use Rattle.lists.proofs.Cases.{same}
 use Rattle.lines.proofs.field.Reads as field
 use Rattle.lines.proofs.text.Reads as text
+use Rattle.lines.proofs.channel.Reads as channel
 use Rattle.lines.proofs.header.Reads as header
 use Rattle.lines.proofs.line.Reads as line
 use Rattle.lines.proofs.cut_line.Reads as cut-line
@@ -22,6 +23,10 @@ field-one κs a r r′ s s′ p q = (same (p .0 .0) (q .0 .0), same (p .1) (q .1
 pub text-one : (κs : _) (a : _) (r r′ : _) (s s′ : _) → text.Post κs a r s → text.Post κs a r′ s′
     → (r ≡ r′) × (now (s .0) ≡ now (s′ .0))
 text-one κs a r r′ s s′ p q = (same (p .0) (q .0), same (p .1) (q .1))
+
+pub channel-one : (κs : _) (a : _) (r r′ : _) (s s′ : _) → channel.Post κs a r s → channel.Post κs a r′ s′
+    → (r ≡ r′) × (now (s .0) ≡ now (s′ .0))
+channel-one κs a r r′ s s′ p q = (same (p .0 .0) (q .0 .0), same (p .1) (q .1))
 
 pub header-one : (κs : _) (a : _) (r r′ : _) (s s′ : _) → header.Post κs a r s → header.Post κs a r′ s′
     → (r ≡ r′) × (now (s .0) ≡ now (s′ .0))

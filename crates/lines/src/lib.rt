@@ -4,7 +4,7 @@
 // `cut_line` the line of a last record that is cut short; `message_line` lays the line of a message handed up;
 // `reading_header` and `reading_line` lay the lines of PDUs that are only read, `totals_header` and `totals_line` those of
 // the connection's totals. Each lays its bytes at the front of a
-// buffer and answers how many there are; `field` and `text`, of which lines are made, lay theirs from a place on. Bytes
+// buffer and answers how many there are; `field`, `channel` and `text`, of which lines are made, lay theirs from a place on. Bytes
 // of the buffer behind them stay. A buffer that is too short gets as much as it has room for.
 use channel::Answer;
 use channel::Concern;
@@ -95,8 +95,8 @@ fn word(out: &mut [u8], at: usize, answer: Answer) -> usize
     }
 }
 
-// The channel's number and a space, or `- `, from a place on.
-fn channel(out: &mut [u8], at: usize, concern: Concern) -> usize
+// The channel's number and a space, or `- `, from a place on. Answers its length.
+pub fn channel(out: &mut [u8], at: usize, concern: Concern) -> usize
     ensures { λ r. ⌜ (r ≡ length (channelField concern)) × (r ≤ FIELD-MAX) ⌝ }
     ensures { λ _. ⌜ now (out .exit) ≡ laid (now (out .entry)) at (channelField concern) ⌝ }
 {

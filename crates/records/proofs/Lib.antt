@@ -1,3 +1,5 @@
+pub mod Framings
 pub mod Records
+pub mod Desk
 pub mod Pieces
 pub mod One

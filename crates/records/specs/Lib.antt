@@ -1,2 +1,3 @@
 pub mod Records
+pub mod Desk
 pub mod Walks

@@ -1,21 +1,48 @@
--- A walk over records, whatever a program does with them. The input comes in pieces, as reads give it, and the text goes
--- out in pieces, as the output has room.
-use Prim.Native.Nat.{ℕ, _+_, _-_}
+-- A walk over records, whatever a record is and whatever a program does with it. The input comes in pieces, as reads give it,
+-- and the text goes out in pieces, as the output has room.
+use mathlib.Core.Path.{_≡_}
+use Prim.Native.Nat.{ℕ, zero, suc, _+_, _-_, _≤_, _<_}
 use mathlib.Core.Bool.{cond}
 use mathlib.Core.List.{List, [], _∷_, _++_}
 use lib.Dec.{ltb, eqb}
-use lib.ListN.{length, drop}
+use lib.ListN.{length, take, drop}
 use Rattle.records.specs.declared.Due.{Due}
 use Rattle.records.specs.declared.Due.the-variants.{Read, Room, Nothing}
-use Rattle.records.specs.Records.{LENGTH, wholeOf, pdus}
 
--- A program that walks over records, each with a PDU in it. What it keeps from record to record is an S.
+-- ---- records
+
+-- What a record is, is said by the bytes of the one at the front, or 0 where no whole record stands there. They are there,
+-- and more bytes behind a whole record leave it as it is.
+pub record Framing (extent : List ℕ → ℕ) : Type 0 where
+  pub fits : (input : List ℕ) → extent input ≤ length input
+  pub more : (input behind : List ℕ) → 0 < extent input → extent (input ++ behind) ≡ extent input
+
+-- the record at the front
+unfoldable pub frontOf : (List ℕ → ℕ) → List ℕ → List ℕ
+frontOf extent input = take (extent input) input
+
+-- the whole records, one behind the other. The number only bounds the steps
+unfoldable pub recordsIn : (List ℕ → ℕ) → ℕ → List ℕ → List (List ℕ)
+recordsIn extent zero input = []
+recordsIn extent (suc steps) input =
+    cond (eqb (extent input) 0) []
+    (frontOf extent input ∷ recordsIn extent steps (drop (extent input) input))
+
+-- each record has a byte, so that the bound never counts
+unfoldable pub recordsOf : (List ℕ → ℕ) → List ℕ → List (List ℕ)
+recordsOf extent input = recordsIn extent (length input) input
+
+-- ---- programs
+
+-- A program that walks over records. What it keeps from record to record is an S.
 pub record Program (S : Type 0) : Type 0 where
+  -- the bytes of the record at the front of an input, or 0 where none is whole
+  pub extent : List ℕ → ℕ
   -- what it writes before the first record
   pub first : List ℕ
   -- the room that it asks for what it writes at a time
   pub room : ℕ
-  -- what it keeps after a PDU, and what it writes for it
+  -- what it keeps after a record, and what it writes for it
   pub after : S → List ℕ → S
   pub text : S → List ℕ → List ℕ
   -- what it writes for a last record that is cut short
@@ -25,20 +52,20 @@ pub record Program (S : Type 0) : Type 0 where
 
 unfoldable pub afterAll : {S : Type 0} → Program S → S → List (List ℕ) → S
 afterAll p s [] = s
-afterAll p s (pdu ∷ rest) = afterAll p (p .after s pdu) rest
+afterAll p s (bytes ∷ rest) = afterAll p (p .after s bytes) rest
 
 unfoldable pub textOfAll : {S : Type 0} → Program S → S → List (List ℕ) → List ℕ
 textOfAll p s [] = []
-textOfAll p s (pdu ∷ rest) = p .text s pdu ++ textOfAll p (p .after s pdu) rest
+textOfAll p s (bytes ∷ rest) = p .text s bytes ++ textOfAll p (p .after s bytes) rest
 
--- the bytes of whole records with these PDUs
+-- the bytes of records
 unfoldable pub sizeOf : List (List ℕ) → ℕ
 sizeOf [] = 0
-sizeOf (pdu ∷ rest) = LENGTH + length pdu + sizeOf rest
+sizeOf (bytes ∷ rest) = length bytes + sizeOf rest
 
 -- what is left of the input behind its whole records
-unfoldable pub restOf : List ℕ → List ℕ
-restOf input = drop (sizeOf (pdus input)) input
+unfoldable pub restOf : (List ℕ → ℕ) → List ℕ → List ℕ
+restOf extent input = drop (sizeOf (recordsOf extent input)) input
 
 -- the end: where anything is left, it is a record that is cut short
 unfoldable pub ending : {S : Type 0} → Program S → S → List ℕ → List ℕ
@@ -46,7 +73,9 @@ ending p s rest = cond (eqb (length rest) 0) [] (p .cut s)
 
 -- what is written for an input
 unfoldable pub written : {S : Type 0} → Program S → S → List ℕ → List ℕ
-written p s input = textOfAll p s (pdus input) ++ ending p (afterAll p s (pdus input)) (restOf input)
+written p s input =
+    textOfAll p s (recordsOf (p .extent) input)
+    ++ ending p (afterAll p s (recordsOf (p .extent) input)) (restOf (p .extent) input)
 
 -- and all that is written, with what stands before the first record
 unfoldable pub output : {S : Type 0} → Program S → S → List ℕ → List ℕ
@@ -66,28 +95,31 @@ stay s = record { kept = s; taken = 0; text = [] }
 abbrev pub onward : {S : Type 0} → ℕ → List ℕ → Went S → Went S
 onward n text went = record { kept = went .kept; taken = n + went .taken; text = text ++ went .text }
 
--- a walk through PDUs, while there is room
+-- a walk through records, while there is room
 unfoldable pub walkOver : {S : Type 0} → Program S → ℕ → S → List (List ℕ) → Went S
 walkOver p room s [] = stay s
-walkOver p room s (pdu ∷ rest) =
+walkOver p room s (bytes ∷ rest) =
     cond (ltb room (p .room)) (stay s)
-    (onward (LENGTH + length pdu) (p .text s pdu) (walkOver p (room - length (p .text s pdu)) (p .after s pdu) rest))
+    (onward (length bytes) (p .text s bytes) (walkOver p (room - length (p .text s bytes)) (p .after s bytes) rest))
+
+abbrev pub walkThrough : {S : Type 0} → Program S → ℕ → S → List ℕ → Went S
+walkThrough p room s input = walkOver p room s (recordsOf (p .extent) input)
 
 -- a turn: where the walk has come in the input that is there, and what it waits for then
 pub record Turned (S : Type 0) : Type 0 where
   pub went : Went S
   pub due : Due
 
--- a whole record that is left waits for room, anything else for a read
-unfoldable pub dueFor : List ℕ → Due
-dueFor rest = cond (eqb (wholeOf rest) 0) Read Room
+-- a whole record that is left, of so many bytes, waits for room, anything else for a read
+unfoldable pub dueFor : ℕ → Due
+dueFor n = cond (eqb n 0) Read Room
 
 -- the whole records, as far as there is room
 unfoldable pub walked : {S : Type 0} → Program S → ℕ → S → List ℕ → Turned S
 walked p room s input =
     record {
-      went = walkOver p room s (pdus input);
-      due = dueFor (drop (walkOver p room s (pdus input) .taken) input);
+      went = walkThrough p room s input;
+      due = dueFor (p .extent (drop (walkThrough p room s input .taken) input));
     }
 
 -- the end of the input, and of the walk; with too little room it waits

@@ -14,8 +14,11 @@ ghost use Prim.Native.Nat.{_≤_};
 ghost use mathlib.Core.Path.{_≡_};
 ghost use lib.ListN.{length, take};
 ghost use Rattle.files.specs.Files.{Fills};
-ghost use Rattle.records.specs.Records.{RECORD-MAX};
+ghost use Rattle.records.specs.Desk.{RECORD-MAX};
 ghost use Rattle.walking.specs.Walking.{roomFor};
+
+// The bytes of the store: room for both ends'.
+const BOTH: usize = 2 * STORE;
 
 // The bytes of the input buffer: room for two records of the greatest length.
 const INPUT: usize = 2 * RECORD_MAX;
@@ -78,10 +81,11 @@ fn turn_by_turn(
 pub fn run(job: Job, fd: i32, name: &[u8], list: &[u8]) -> bool
     ensures { λ _. ⌜ (now (name .exit) ≡ now (name .entry)) × (now (list .exit) ≡ now (list .entry)) ⌝ }
 {
-    let mut store = [0u8; STORE];
+    let mut store = [0u8; BOTH];
     let mut buffer = [0u8; INPUT];
     let mut out = [0u8; OUTPUT];
-    turn_by_turn(job, fd, name, list, &mut store, &mut buffer, &mut out)
+    let n = walking::store_for(job);
+    turn_by_turn(job, fd, name, list, &mut store[..n], &mut buffer, &mut out)
 }
 
 // A program that does a job over standard input. It takes no arguments: any is bad use, which is said in the line

@@ -1,3 +1,4 @@
+pub mod Framings
 pub mod Records
 pub mod Walks
 pub mod Turns

@@ -10,8 +10,13 @@ use Rattle.lists.proofs.Cases.{same}
 use Rattle.records.specs.Walks.{Turned}
 use Rattle.walking.specs.declared.Turned.{Turned as Turn}
 use Rattle.walking.specs.Walking.{Walk, standOf, Turns}
+use Rattle.walking.proofs.store_for.Reads as store-for
 use Rattle.walking.proofs.begin.Reads as begin
 use Rattle.walking.proofs.turn.Reads as turn
+
+pub store-for-one : (κs : _) (a : _) (r r′ : _) (s s′ : _) → store-for.Post κs a r s → store-for.Post κs a r′ s′
+    → r ≡ r′
+store-for-one κs a r r′ s s′ p q = same p q
 
 pub begin-one : (κs : _) (a : _) (r r′ : _) (s s′ : _) → begin.Post κs a r s → begin.Post κs a r′ s′
     → (r ≡ r′) × (now (s .1 .0) ≡ now (s′ .1 .0)) × (now (s .1 .1 .0) ≡ now (s′ .1 .1 .0))

@@ -6,7 +6,6 @@ use mathlib.Core.List.{List, _++_}
 use Prim.Native.Nat.{ℕ, _-_, _≤_}
 use native.Mathlib.Omega.{arith}
 use lib.ListN.{length, take, drop, length-drop}
-use Rattle.paper.specs.Sizes.{STORE}
 use Rattle.lists.specs.Bytes.{zeros}
 use Rattle.lists.proofs.Laid.{front}
 use Rattle.records.specs.declared.Due.the-variants.{Nothing}
@@ -15,7 +14,8 @@ use Rattle.records.proofs.Pieces.{whole-output}
 use Rattle.walking.specs.declared.Job.{Job}
 use Rattle.walking.specs.declared.Stand.{Stand}
 use Rattle.walking.specs.declared.Turned.{Turned as Turn}
-use Rattle.walking.specs.Walking.{Walk, walkOf, beginning, program, firstFor, startWalk, outputOf, Turns}
+use Rattle.walking.specs.Walking.{Walk, walkOf, beginning, program, firstFor, storeFor, startWalk, outputOf, Turns}
+use Rattle.walking.proofs.Framings.{framed}
 
 -- after a turn what is left stands at the buffer's front, where the next read goes on behind it
 pub left-in-front : {t : Turned Walk} {input out : List ℕ} {r : Turn} {store′ input′ out′ : List ℕ} → Turns t input out r store′ input′ out′
@@ -49,9 +49,9 @@ after-turn {t} {input} did =
     }
 
 -- a run begins where `begin` leaves the walk
-pub begins-there : (buffer : List ℕ) → Stands (atFirst startWalk) beginning (zeros STORE) buffer
+pub begins-there : (job : Job) (buffer : List ℕ) → Stands (atFirst (startWalk job)) beginning (zeros (storeFor job)) buffer
 unfolding startWalk beginning
-begins-there buffer = record { due = refl; kept = refl; left = refl; had = refl }
+begins-there job buffer = record { due = refl; kept = refl; left = refl; had = refl }
 
 -- a call of `turn` over what was left and what was read is a turn of the run: it leads to where the run stands then, and lays the
 -- run's text
@@ -64,7 +64,7 @@ call-is-turn job list met {at} {stand} {store} {buffer} {out} here room fits did
     rw same (after-turn did, text-in-front did fits)
 
 -- a run that has come to its end has written what the program writes for all that was read
-pub run-output : (job : Job) (list : List ℕ) (mets : List Met) → ran (program job list) (atFirst startWalk) mets .at .due ≡ Nothing
-    → firstFor job ++ ran (program job list) (atFirst startWalk) mets .text ≡ outputOf job list (ran (program job list) (atFirst startWalk) mets .input)
+pub run-output : (job : Job) (list : List ℕ) (mets : List Met) → ran (program job list) (atFirst (startWalk job)) mets .at .due ≡ Nothing
+    → firstFor job ++ ran (program job list) (atFirst (startWalk job)) mets .text ≡ outputOf job list (ran (program job list) (atFirst (startWalk job)) mets .input)
 unfolding program
-run-output job list mets end = whole-output (program job list) startWalk mets end
+run-output job list mets end = whole-output (program job list) (framed job list) (startWalk job) mets end

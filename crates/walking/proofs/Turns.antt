@@ -13,10 +13,10 @@ use Rattle.lists.proofs.Laid.{whole}
 use Rattle.lines.specs.Lines.{LINE-MAX, MESSAGE-LINE-MAX}
 use Rattle.records.specs.declared.Due.{Due}
 use Rattle.records.specs.declared.Due.the-variants.{Read, Room, Nothing}
-use Rattle.records.specs.Records.{pdus}
-use Rattle.records.specs.Walks.{Program, Turned, stay, walkOver, dueFor, walked, ending, ended, turned}
+use Rattle.records.specs.Walks.{Program, Turned, stay, walkThrough, dueFor, walked, ending, ended, turned}
+use Rattle.linking.specs.Linking.{CALL-MAX, STEP-MAX}
 use Rattle.walking.specs.declared.Job.{Job}
-use Rattle.walking.specs.declared.Job.the-variants.{Client, Strict}
+use Rattle.walking.specs.declared.Job.the-variants.{Client, Strict, Desk, Link}
 use Rattle.walking.specs.declared.Told.the-variants.{Lines, Messages, Moves, Totals}
 use Rattle.walking.specs.declared.Kept.{Kept}
 use Rattle.walking.specs.declared.Walked.{Walked}
@@ -33,8 +33,8 @@ nothing-laid out = refl
 
 -- a walk over the input, with what is left of it at the front
 pub walk-turns : (p : Program Walk) (w : Walk) (input out : List ℕ) {r : Walked} {due : Due} {store′ input′ out′ : List ℕ}
-    → Walks (walkOver p (length out) w (pdus input)) out r store′ out′
-    → due ≡ dueFor (drop (r .taken) input) → input′ ≡ laid input 0 (drop (r .taken) input)
+    → Walks (walkThrough p (length out) w input) out r store′ out′
+    → due ≡ dueFor (p .extent (drop (r .taken) input)) → input′ ≡ laid input 0 (drop (r .taken) input)
     → Turns (walked p (length out) w input) input out (record { stand = record { kept = r .kept; had = length input - r .taken; due = due }; laid = r .laid }) store′ input′ out′
 unfolding walked
 walk-turns p w input out did due moved =
@@ -67,7 +67,7 @@ end-whole job list kept store input out roomy none = rw (le-ltb _ _ roomy, eq-eq
 
 -- the end with a record that is cut short
 pub end-cut : (job : Job) (list : List ℕ) (kept : Kept) (store input out : List ℕ) {n : ℕ} {out′ : List ℕ} → roomFor job ≤ length out → 0 < length input
-    → n ≡ length (cutFor job (kept .place)) → out′ ≡ laid out 0 (cutFor job (kept .place))
+    → n ≡ length (cutFor job (kept .ended) (kept .place)) → out′ ≡ laid out 0 (cutFor job (kept .ended) (kept .place))
     → Turns (ended (program job list) (length out) (walkOf kept store) input) input out (record { stand = record { kept = kept; had = length input; due = Nothing }; laid = n }) store input out′
 unfolding ended ending program
 end-cut job list kept store input out roomy some long lines =
@@ -87,9 +87,11 @@ read-turn p room w had input more = rw (ne-eqb _ _ more)
 
 -- the room that a program asks for holds its line for a record that is cut short
 pub line-fits : (job : Job) → LINE-MAX ≤ roomFor job
-unfolding roomFor roomTold MESSAGE-LINE-MAX MESSAGE-MAX
+unfolding roomFor roomTold STEP-MAX CALL-MAX MESSAGE-LINE-MAX MESSAGE-MAX
 line-fits (Client Lines) = omega arith
 line-fits (Client Messages) = omega arith
 line-fits (Client Moves) = omega arith
 line-fits (Client Totals) = omega arith
 line-fits (Strict fromServer) = omega arith
+line-fits Desk = omega arith
+line-fits Link = omega arith

@@ -8,17 +8,15 @@ use lib.ListN.{length, drop, length-append, length-drop}
 use lib.Seq.{drop-drop}
 use Rattle.lists.specs.Bytes.{laid}
 use Rattle.lists.proofs.Laid.{laid-behind, length-laid}
-use Rattle.records.specs.Records.{wholeOf, pduOf, pdus}
-use Rattle.records.specs.Walks.{Program, Went, stay, onward, walkOver}
-use Rattle.records.proofs.Records.{whole-fits}
-use Rattle.records.proofs.Pieces.{first-taken}
+use Rattle.records.specs.Walks.{Program, Went, stay, onward, walkThrough}
+use Rattle.records.proofs.Pieces.{Framed, front, first-taken}
 use Rattle.walking.specs.declared.Kept.{Kept}
 use Rattle.walking.specs.declared.Stepped.{Stepped}
 use Rattle.walking.specs.Walking.{Walk, walkOf, keptOf, Steps, Walks}
 
 -- the walk through the records from a place of the input on, with what is used of the room gone
 abbrev pub from : Program Walk → List ℕ → ℕ → Walk → ℕ → ℕ → Went Walk
-from p input room w at used = walkOver p (room - used) w (pdus (drop at input))
+from p input room w at used = walkThrough p (room - used) w (drop at input)
 
 -- a walk has come to a place of the input and of the output: what is left of it leads to the same end
 pub record Left (input out₀ : List ℕ) (went : Went Walk) (out : List ℕ) (at used : ℕ) (left : Went Walk) : Type 0 where
@@ -43,10 +41,10 @@ at-first input out went =
     }
 
 -- before the first record all is left
-pub begins : (p : Program Walk) (input out : List ℕ) (w : Walk) → Left input out (walkOver p (length out) w (pdus input)) out 0 0 (from p input (length out) w 0 0)
+pub begins : (p : Program Walk) (input out : List ℕ) (w : Walk) → Left input out (walkThrough p (length out) w input) out 0 0 (from p input (length out) w 0 0)
 begins p input out w =
     let e : length out - 0 ≡ length out = omega arith in
-    rw e (at-first input out (walkOver p (length out) w (pdus input)))
+    rw e (at-first input out (walkThrough p (length out) w input))
 
 -- one record on
 one-on : (input out₀ : List ℕ) (went : Went Walk) (out : List ℕ) (at used n : ℕ) (text : List ℕ) (left : Went Walk)
@@ -64,29 +62,29 @@ one-on input out₀ went out at used n text left h there roomy =
     }
 
 -- a walk with room takes the record in front
-walk-one : (p : Program Walk) (input : List ℕ) (room : ℕ) (w : Walk) (at used : ℕ) → p .room ≤ room - used → 0 < wholeOf (drop at input)
-    → from p input room w at used ≡ onward (wholeOf (drop at input)) (p .text w (pduOf (drop at input))) (from p input room (p .after w (pduOf (drop at input))) (at + wholeOf (drop at input)) (used + length (p .text w (pduOf (drop at input)))))
-walk-one p input room w at used roomy some =
+walk-one : (p : Program Walk) → Framed p → (input : List ℕ) (room : ℕ) (w : Walk) (at used : ℕ) → p .room ≤ room - used → 0 < p .extent (drop at input)
+    → from p input room w at used ≡ onward (p .extent (drop at input)) (p .text w (front p (drop at input))) (from p input room (p .after w (front p (drop at input))) (at + p .extent (drop at input)) (used + length (p .text w (front p (drop at input)))))
+walk-one p f input room w at used roomy some =
     let rest = drop at input in
-    let text = p .text w (pduOf rest) in
+    let text = p .text w (front p rest) in
     let e : room - used - length text ≡ room - (used + length text) = omega arith in
-    rw (first-taken p (room - used) w rest roomy some, e, drop-drop (wholeOf rest) at input)
+    rw (first-taken p f (room - used) w rest roomy some, e, drop-drop (p .extent rest) at input)
 
 -- a turn: the record in front is taken, and its text laid
-pub turn : (p : Program Walk) (input out₀ : List ℕ) (went : Went Walk) (store out : List ℕ) (next : Kept) (at used n : ℕ) {bytes lent store′ lent′ out′ : List ℕ} {r : Stepped}
+pub turn : (p : Program Walk) → Framed p → (input out₀ : List ℕ) (went : Went Walk) (store out : List ℕ) (next : Kept) (at used n : ℕ) {bytes lent store′ lent′ out′ : List ℕ} {r : Stepped}
     → Left input out₀ went out at used (from p input (length out₀) (walkOf next store) at used)
-    → p .room ≤ length out - used → n ≡ wholeOf (drop at input) → 0 < n → bytes ≡ pduOf (drop at input)
+    → p .room ≤ length out - used → n ≡ p .extent (drop at input) → 0 < n → bytes ≡ front p (drop at input)
     → Steps p (walkOf next store) bytes lent r store′ lent′ → out′ ≡ laid out used (p .text (walkOf next store) bytes)
     → Left input out₀ went out′ (at + n) (used + r .laid) (from p input (length out₀) (walkOf (r .kept) store′) (at + n) (used + r .laid))
-turn p input out₀ went store out next at used n {bytes} h roomy whole some lent did lines =
+turn p f input out₀ went store out next at used n {bytes} h roomy whole some lent did lines =
     let rest = drop at input in
-    let text = p .text (walkOf next store) (pduOf rest) in
-    let there : at + wholeOf rest ≤ length input = omega (arith, whole-fits rest .0, length-drop at input) in
+    let text = p .text (walkOf next store) (front p rest) in
+    let there : at + p .extent rest ≤ length input = omega (arith, f .fits rest, length-drop at input) in
     let room : p .room ≤ length out₀ - used = omega arith in
     let long = rw lent at (did .length-laid) in
     let fits : used + length text ≤ length out = omega (arith, did .fits, long) in
-    let first = rw (walk-one p input (length out₀) (walkOf next store) at used room (rw whole at some)) at h in
-    rw (lines, did .kept, did .stored, did .length-laid, lent, whole) (one-on input out₀ went out at used (wholeOf rest) text _ first there fits)
+    let first = rw (walk-one p f input (length out₀) (walkOf next store) at used room (rw whole at some)) at h in
+    rw (lines, did .kept, did .stored, did .length-laid, lent, whole) (one-on input out₀ went out at used (p .extent rest) text _ first there fits)
 
 nothing-laid : (l : List ℕ) (at : ℕ) → l ≡ laid l at []
 unfolding laid

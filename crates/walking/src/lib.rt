@@ -1,33 +1,34 @@
-// Walks over records: each record goes to the client's step, and what is written says what was answered; or it is only
-// read, strictly, and what is written says whether it was accepted.
+// Walks over records: each record goes to the client's step or to the shore's, and what is written says what was answered;
+// or it is only read, strictly, and what is written says whether it was accepted.
 //
 // A walk begins with `begin`, which lays what stands before the first record. Then, until it waits for nothing, it is
 // taken on by `turn`: the caller lends it the input that is there, what was left and behind it what was read, and gets
 // the text to write, with what is left of the input at its buffer's front. Where the walk waits for a read the caller
 // reads, and a turn with nothing new is the end of the input. Both take anything, and neither refuses.
-use channel::Answer;
 use client::Received;
 use lines::LINE_MAX;
 use lines::MESSAGE_LINE_MAX;
-use paper::PART;
+use linking::Ends;
+use linking::STEP_MAX;
+use paper::PDU_MAX;
 use paper::REPLY_MIN;
+use paper::STORE;
 use records::Due;
 use records::LENGTH;
+use shore::Shore;
 use table::Table;
 ghost use mathlib.Core.Path.{_≡_};
 ghost use mathlib.Core.List.{List};
 ghost use Prim.Native.Nat.{ℕ, _≤_};
 ghost use lib.ListN.{length};
-ghost use Rattle.paper.specs.Sizes.{PARTS};
 ghost use Rattle.lists.specs.Bytes.{laid};
-ghost use Rattle.lines.specs.Lines.{LINE-MAX, MESSAGE-LINE-MAX, messageLineOf};
-ghost use Rattle.records.specs.Records.{pdus};
-ghost use Rattle.records.specs.Walks.{walkOver, turned, walked, ended};
-ghost use Rattle.client.specs.Client.{storeStarted, Whole};
-ghost use Rattle.walking.specs.declared.Job.the-variants.{Client, Strict};
-ghost use Rattle.walking.specs.Walking.{walkOf, keptOf, beginning, hasCloses, isClose, answered, afterRecord, placeIn, handedUp};
-ghost use Rattle.walking.specs.Walking.{messageText, textFor, firstTold, cutTold, roomTold, firstFor, cutFor};
-ghost use Rattle.walking.specs.Walking.{roomFor, program, Steps, Walks, Turns};
+ghost use Rattle.lines.specs.Lines.{LINE-MAX};
+ghost use Rattle.records.specs.Walks.{walkThrough, turned, walked, ended};
+ghost use Rattle.client.specs.Client.{Whole};
+ghost use Rattle.walking.specs.declared.Job.the-variants.{Client, Strict, Desk, Link};
+ghost use Rattle.walking.specs.Walking.{walkOf, keptOf, beginning, hasCloses, isClose, answered};
+ghost use Rattle.walking.specs.Walking.{extentFor, textFor, firstTold, cutTold, roomTold, firstFor, cutUnless, cutFor};
+ghost use Rattle.walking.specs.Walking.{roomFor, storeFor, startedFor, program, Steps, Walks, Turns};
 
 // What is told of the client's steps.
 pub enum Told {
@@ -47,11 +48,18 @@ pub enum Job {
     Client(Told),
     // Strict reading of each record: a line for each PDU.
     Strict { from_server: bool },
+    // The shore's call for each record: a line for each.
+    Desk,
+    // Both ends, joined: a line for each call at an end.
+    Link,
 }
 
-// What a walk keeps from record to record, beside the store: the table, and the place of the next record.
+// What a walk keeps from record to record, beside the store: what the hosts of both ends keep, whether the run has ended at a
+// record that is none, and the place of the next record.
 pub struct Kept {
     pub table: Table,
+    pub shore: Shore,
+    pub ended: bool,
     pub place: u64,
 }
 
@@ -82,6 +90,18 @@ struct Walked {
     laid: usize,
 }
 
+// How many bytes the record at the front has, or 0 where no whole record stands there.
+fn extent_for(job: Job, input: &[u8]) -> usize
+    ensures { λ r. ⌜ r ≡ extentFor job (now (input .entry)) ⌝ }
+{
+    match job {
+        Job::Client(_) => records::whole(input),
+        Job::Strict { from_server: _ } => records::whole(input),
+        Job::Desk => records::desk_whole(input),
+        Job::Link => records::link_whole(input),
+    }
+}
+
 // The most bytes of a record's text.
 fn room_told(told: Told) -> usize
     ensures { λ r. ⌜ r ≡ roomTold told ⌝ }
@@ -100,6 +120,8 @@ fn room_for(job: Job) -> usize
     match job {
         Job::Client(told) => room_told(told),
         Job::Strict { from_server: _ } => LINE_MAX,
+        Job::Desk => LINE_MAX,
+        Job::Link => STEP_MAX,
     }
 }
 
@@ -123,6 +145,8 @@ fn first_for(job: Job, out: &mut [u8]) -> usize
     match job {
         Job::Client(told) => first_told(told, out),
         Job::Strict { from_server: _ } => lines::reading_header(out),
+        Job::Desk => saying::desk_header(out),
+        Job::Link => saying::link_header(out),
     }
 }
 
@@ -139,13 +163,58 @@ fn cut_told(told: Told, out: &mut [u8], place: u64) -> usize
     }
 }
 
-fn cut_for(job: Job, out: &mut [u8], place: u64) -> usize
-    ensures { λ r. ⌜ (r ≡ length (cutFor job place)) × (r ≤ LINE-MAX) ⌝ }
-    ensures { λ _. ⌜ now (out .exit) ≡ laid (now (out .entry)) 0 (cutFor job place) ⌝ }
+// After a record that is none nothing more is written.
+fn cut_unless(ended: bool, out: &mut [u8], place: u64) -> usize
+    ensures { λ r. ⌜ (r ≡ length (cutUnless ended place)) × (r ≤ LINE-MAX) ⌝ }
+    ensures { λ _. ⌜ now (out .exit) ≡ laid (now (out .entry)) 0 (cutUnless ended place) ⌝ }
+{
+    if ended {
+        return 0;
+    }
+    lines::cut_line(out, place)
+}
+
+fn cut_for(job: Job, out: &mut [u8], ended: bool, place: u64) -> usize
+    ensures { λ r. ⌜ (r ≡ length (cutFor job ended place)) × (r ≤ LINE-MAX) ⌝ }
+    ensures { λ _. ⌜ now (out .exit) ≡ laid (now (out .entry)) 0 (cutFor job ended place) ⌝ }
 {
     match job {
         Job::Client(told) => cut_told(told, out, place),
         Job::Strict { from_server: _ } => lines::cut_line(out, place),
+        Job::Desk => lines::cut_line(out, place),
+        Job::Link => cut_unless(ended, out, place),
+    }
+}
+
+// The bytes of the store that a job is lent: one end's, or both ends'.
+pub fn store_for(job: Job) -> usize
+    ensures { λ r. ⌜ r ≡ storeFor job ⌝ }
+{
+    match job {
+        Job::Client(_) => STORE,
+        Job::Strict { from_server: _ } => STORE,
+        Job::Desk => STORE,
+        Job::Link => 2 * STORE,
+    }
+}
+
+// The ends start.
+fn start_for(job: Job, store: &mut [u8])
+    ensures { λ _. ⌜ now (store .exit) ≡ startedFor job (now (store .entry)) ⌝ }
+{
+    match job {
+        Job::Client(_) => {
+            client::start(store);
+        }
+        Job::Strict { from_server: _ } => {
+            client::start(store);
+        }
+        Job::Desk => {
+            shore::start(store);
+        }
+        Job::Link => {
+            linking::start(store);
+        }
     }
 }
 
@@ -153,15 +222,20 @@ fn cut_for(job: Job, out: &mut [u8], place: u64) -> usize
 // empty table.
 pub fn begin(job: Job, store: &mut [u8], out: &mut [u8]) -> Turned
     ensures { λ r. ⌜ (r ≡ record { stand = beginning; laid = length (firstFor job) }) × (r .laid ≤ LINE-MAX) ⌝ }
-    ensures { λ _. ⌜ now (store .exit) ≡ storeStarted (now (store .entry)) ⌝ }
+    ensures { λ _. ⌜ now (store .exit) ≡ startedFor job (now (store .entry)) ⌝ }
     ensures { λ _. ⌜ now (out .exit) ≡ laid (now (out .entry)) 0 (firstFor job) ⌝ }
 {
-    let started = client::start(store);
-    let table = started.table;
+    start_for(job, store);
+    let table = table::empty();
     let laid = first_for(job, out);
     Turned {
         stand: Stand {
-            kept: Kept { table, place: 0 },
+            kept: Kept {
+                table,
+                shore: Shore { table, asked: 0 },
+                ended: false,
+                place: 0,
+            },
             had: 0,
             due: Due::Read,
         },
@@ -195,18 +269,9 @@ fn is_close(told: Told, bytes: &[u8]) -> bool
 }
 
 // The client's step for a record.
-fn answered(
-    told: Told,
-    table: Table,
-    store: &mut [u8],
-    list: &[u8],
-    bytes: &[u8],
-    place: u64,
-) -> Received
-    ensures { λ r. ⌜ r ≡ answered told (now (list .entry))
-        (record { table = table; store = now (store .entry); place = place }) (now (bytes .entry)) .result ⌝ }
-    ensures { λ _. ⌜ now (store .exit) ≡ answered told (now (list .entry))
-        (record { table = table; store = now (store .entry); place = place }) (now (bytes .entry)) .store ⌝ }
+fn answered(told: Told, table: Table, store: &mut [u8], list: &[u8], bytes: &[u8]) -> Received
+    ensures { λ r. ⌜ r ≡ answered told (now (list .entry)) table (now (store .entry)) (now (bytes .entry)) .result ⌝ }
+    ensures { λ _. ⌜ now (store .exit) ≡ answered told (now (list .entry)) table (now (store .entry)) (now (bytes .entry)) .store ⌝ }
 {
     let mut reply = [0u8; REPLY_MIN];
     if is_close(told, bytes) {
@@ -216,39 +281,8 @@ fn answered(
     client::receive(table, store, list, bytes, &mut reply)
 }
 
-// The line of a message handed up: its bytes are the first of the part at the place beside the answer.
-fn message(out: &mut [u8], place: u64, at: usize, store: &[u8], number: u32, len: usize) -> usize
-    requires { ⌜ at ≤ PARTS ⌝ }
-    ensures { λ r. ⌜ (r ≡ length (messageLineOf place number (handedUp (now (store .entry)) at len))) × (r ≤ MESSAGE-LINE-MAX) ⌝ }
-    ensures { λ _. ⌜ now (out .exit) ≡ laid (now (out .entry)) 0 (messageLineOf place number (handedUp (now (store .entry)) at len)) ⌝ }
-{
-    let start = lists::lesser(PART * at, store.len());
-    let n = lists::lesser(len, PART);
-    let end = start + lists::lesser(n, store.len() - start);
-    lines::message_line(out, place, number, &store[start..end])
-}
-
-// A line for a message handed up, and nothing for any other answer.
-fn message_text(out: &mut [u8], place: u64, at: usize, store: &[u8], answer: Answer) -> usize
-    requires { ⌜ at ≤ PARTS ⌝ }
-    ensures { λ r. ⌜ (r ≡ length (messageText place at (now (store .entry)) answer)) × (r ≤ MESSAGE-LINE-MAX) ⌝ }
-    ensures { λ _. ⌜ now (out .exit) ≡ laid (now (out .entry)) 0 (messageText place at (now (store .entry)) answer) ⌝ }
-{
-    match answer {
-        Answer::Ready { level: _ } => 0,
-        Answer::Opened { number: _ } => 0,
-        Answer::Declined { number: _, why: _ } => 0,
-        Answer::Held { number: _, left: _ } => 0,
-        Answer::Message { number, len } => message(out, place, at, store, number, len),
-        Answer::Closed { number: _ } => 0,
-        Answer::Ignored { number: _ } => 0,
-        Answer::Refused { why: _, concern: _ } => 0,
-    }
-}
-
 // The text of a step, at the front of the buffer.
 fn text_for(told: Told, out: &mut [u8], place: u64, received: Received, store: &[u8]) -> usize
-    requires { ⌜ received .place ≡ placeIn received ⌝ }
     ensures { λ r. ⌜ (r ≡ length (textFor told place received (now (store .entry)))) × (r ≤ roomTold told) ⌝ }
     ensures { λ _. ⌜ now (out .exit) ≡ laid (now (out .entry)) 0 (textFor told place received (now (store .entry))) ⌝ }
 {
@@ -256,7 +290,7 @@ fn text_for(told: Told, out: &mut [u8], place: u64, received: Received, store: &
     let totals = received.table.totals;
     match told {
         Told::Lines => lines::line(out, place, answer, received.sent),
-        Told::Messages => message_text(out, place, received.place, store, answer),
+        Told::Messages => handing::of_answer(out, place, received.place, store, answer),
         Told::Moves => lines::line(out, place, answer, received.sent),
         Told::Totals => lines::totals_line(out, place, totals.channels, totals.awaited),
     }
@@ -275,12 +309,16 @@ fn step_told(
         (now (bytes .entry)) (now (out .entry)) r (now (store .exit)) (now (out .exit)) ⌝ }
 {
     let table = kept.table;
-    let received = answered(told, table, store, list, bytes, kept.place);
+    let from = lists::lesser(LENGTH, bytes.len());
+    let received = answered(told, table, store, list, &bytes[from..]);
     let laid = text_for(told, out, kept.place, received, store);
     let table = received.table;
+    let shore = kept.shore;
     Stepped {
         kept: Kept {
             table,
+            shore,
+            ended: kept.ended,
             place: std::num::wrapping_add_u64(kept.place, 1),
         },
         laid,
@@ -292,15 +330,69 @@ fn step_read(from_server: bool, kept: Kept, bytes: &[u8], out: &mut [u8]) -> Ste
     ensures { λ r. ⌜ ((list store : List ℕ) → Steps (program (Strict «from_server») list) (walkOf kept store)
         (now (bytes .entry)) (now (out .entry)) r store (now (out .exit))) ⌝ }
 {
-    let refusal = reading::verdict(reading::read_strict(bytes, from_server));
+    let from = lists::lesser(LENGTH, bytes.len());
+    let refusal = reading::verdict(reading::read_strict(&bytes[from..], from_server));
     let laid = lines::reading_line(out, kept.place, refusal);
     let table = kept.table;
+    let shore = kept.shore;
     Stepped {
         kept: Kept {
             table,
+            shore,
+            ended: kept.ended,
             place: std::num::wrapping_add_u64(kept.place, 1),
         },
         laid,
+    }
+}
+
+// One record of the shore's: its call, and its line at the front of the buffer.
+fn step_desk(kept: Kept, store: &mut [u8], bytes: &[u8], out: &mut [u8]) -> Stepped
+    ensures { λ r. ⌜ ((list : List ℕ) → Steps (program Desk list) (walkOf kept (now (store .entry)))
+        (now (bytes .entry)) (now (out .entry)) r (now (store .exit)) (now (out .exit))) ⌝ }
+{
+    let mut buffer = [0u8; PDU_MAX];
+    let shore = kept.shore;
+    let given = hosting::hosted(shore, store, bytes, &mut buffer);
+    let said = given.said;
+    let laid = saying::desk_line(out, kept.place, said, given.sent);
+    let table = kept.table;
+    let shore = given.shore;
+    Stepped {
+        kept: Kept {
+            table,
+            shore,
+            ended: kept.ended,
+            place: std::num::wrapping_add_u64(kept.place, 1),
+        },
+        laid,
+    }
+}
+
+// One record of both ends: what comes of it, and its text at the front of the buffer. After a record that is none nothing
+// more is done.
+fn step_link(kept: Kept, store: &mut [u8], list: &[u8], bytes: &[u8], out: &mut [u8]) -> Stepped
+    ensures { λ r. ⌜ Steps (program Link (now (list .entry))) (walkOf kept (now (store .entry)))
+        (now (bytes .entry)) (now (out .entry)) r (now (store .exit)) (now (out .exit)) ⌝ }
+{
+    if kept.ended {
+        return Stepped { kept, laid: 0 };
+    }
+    let panel = kept.table;
+    let shore = kept.shore;
+    let stepped = linking::step(Ends { panel, shore }, store, list, bytes, kept.place, out);
+    let crossed = stepped.crossed;
+    let ends = crossed.ends;
+    let table = ends.panel;
+    let shore = ends.shore;
+    Stepped {
+        kept: Kept {
+            table,
+            shore,
+            ended: stepped.bad,
+            place: std::num::wrapping_add_u64(kept.place, 1),
+        },
+        laid: crossed.laid,
     }
 }
 
@@ -319,13 +411,15 @@ fn step(
     match job {
         Job::Client(told) => step_told(told, kept, store, list, bytes, out),
         Job::Strict { from_server } => step_read(from_server, kept, bytes, out),
+        Job::Desk => step_desk(kept, store, bytes, out),
+        Job::Link => step_link(kept, store, list, bytes, out),
     }
 }
 
 // Walks through the whole records at the front of the input, while the output has room for a record's text.
 fn walk(job: Job, kept: Kept, store: &mut [u8], list: &[u8], input: &[u8], out: &mut [u8]) -> Walked
-    ensures { λ r. ⌜ Walks (walkOver (program job (now (list .entry))) (length (now (out .entry)))
-        (walkOf kept (now (store .entry))) (pdus (now (input .entry))))
+    ensures { λ r. ⌜ Walks (walkThrough (program job (now (list .entry))) (length (now (out .entry)))
+        (walkOf kept (now (store .entry))) (now (input .entry)))
         (now (out .entry)) r (now (store .exit)) (now (out .exit)) ⌝ }
     ensures within { λ r. ⌜ (r .taken ≤ length (now (input .entry))) × (r .laid ≤ length (now (out .entry))) ⌝ }
 {
@@ -334,13 +428,12 @@ fn walk(job: Job, kept: Kept, store: &mut [u8], list: &[u8], input: &[u8], out: 
     let mut at = 0;
     let mut used = 0;
     while room <= out.len() - used {
-        let n = records::whole(&input[at..]);
+        let n = extent_for(job, &input[at..]);
         if n == 0 {
             break;
         }
-        let start = at + LENGTH;
         let end = at + n;
-        let stepped = step(job, next, store, list, &input[start..end], &mut out[used..]);
+        let stepped = step(job, next, store, list, &input[at..end], &mut out[used..]);
         next = stepped.kept;
         at = end;
         used += stepped.laid;
@@ -368,7 +461,7 @@ fn onward(
 {
     let walked = walk(job, kept, store, list, input, out);
     let taken = walked.taken;
-    let due = records::due_for(&input[taken..]);
+    let due = records::due_for(extent_for(job, &input[taken..]));
     lists::to_front(input, taken);
     let kept = walked.kept;
     Turned {
@@ -399,7 +492,7 @@ fn finish(job: Job, kept: Kept, input: &[u8], out: &mut [u8]) -> Turned
     let due = Due::Nothing;
     let stand = Stand { kept, had, due };
     if 0 < had {
-        let laid = cut_for(job, out, kept.place);
+        let laid = cut_for(job, out, kept.ended, kept.place);
         return Turned { stand, laid };
     }
     Turned { stand, laid: 0 }

@@ -1,14 +1,14 @@
--- `walking::begin` meets its contract: Start gives the empty table, refused or not.
-use Rattle.client.specs.Client.{started}
+-- `walking::begin` meets its contract: the ends start, and the first line is laid.
 use Rattle.walking.specs.Walking.{beginning}
 use borrow.Author.Needs.{needs}
 use Rattle.walking.proofs.begin.Statement.{statement}
 use Rattle.walking.proofs.begin.Tie as tie
 
--- `walking::begin` meets its contract: Start gives the empty table, refused or not.
+start-for-requires : tie.Need-start-for-requires
+start-for-requires c κs = search needs
 
-start-requires : tie.Need-start-requires
-start-requires c κs = search needs
+empty-requires : tie.Need-empty-requires
+empty-requires c κs = search needs
 
 first-for-requires : tie.Need-first-for-requires
 first-for-requires c κs = search needs
@@ -20,12 +20,19 @@ same-length-2 : tie.Need-same-length-2
 same-length-2 c = search needs
 
 returns : tie.Need-returns
-unfolding beginning started
+unfolding beginning
 returns c =
-    let made = c .before .before .before .before .before .before .before .start .ensures in
     let first = c .before .before .first-for .ensures in
-    ((rw (made .0, first .0 .0), first .0 .1), (made .1, first .1))
+    let made = c .before .before .before .before .empty .ensures in
+    ((rw (made, first .0 .0), first .0 .1), (c .before .before .before .before .before .before .before .start-for .ensures, first .1))
 
 pub begin-spec : {M : Type 1} → statement M
 begin-spec =
-    tie.close (tie.spec start-requires first-for-requires same-length same-length-2 returns)
+    tie.close
+    (tie.spec
+    start-for-requires
+    empty-requires
+    first-for-requires
+    same-length
+    same-length-2
+    returns)

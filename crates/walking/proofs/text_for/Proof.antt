@@ -1,18 +1,8 @@
 -- `walking::text_for` meets its contract: each arm is a case of the definition.
-use mathlib.Core.Path.{_≡_}
-use lib.ListN.{length}
-use Rattle.paper.specs.Sizes.{PARTS}
-use Rattle.lists.proofs.Arrays.{length-mapped}
-use Rattle.walking.specs.Walking.{placeIn, textFor, roomTold}
-use Rattle.walking.proofs.Records.{at-most}
+use Rattle.walking.specs.Walking.{textFor, roomTold}
 use borrow.Author.Needs.{needs}
 use Rattle.walking.proofs.text_for.Statement.{statement}
 use Rattle.walking.proofs.text_for.Tie as tie
-
--- the table has its records
-sixteen : (c : tie.Start) → length (c .args .received .table .records) ≡ PARTS
-unfolding PARTS
-sixteen c = search (needs, length-mapped, c .good .1 .1 .1 .0)
 
 enum-told : tie.Need-enum-told
 enum-told c = search needs
@@ -23,11 +13,8 @@ line-requires c κs = search needs
 enum-told-2 : tie.Need-enum-told-2
 enum-told-2 c = search needs
 
-message-text-requires : tie.Need-message-text-requires
-unfolding placeIn
-message-text-requires c κs =
-    let start = c .before .before .before .before .before .before in
-    rw (start .pre) (at-most _ _ (sixteen start))
+of-answer-requires : tie.Need-of-answer-requires
+of-answer-requires c κs = search needs
 
 enum-told-3 : tie.Need-enum-told-3
 enum-told-3 c = search needs
@@ -53,7 +40,7 @@ same-length-2 c = search needs
 
 returns-2 : tie.Need-returns-2
 unfolding textFor roomTold
-returns-2 c = rw (c .before .before .before .before .enum-told2 .given .1) (c .before .before .message-text .ensures)
+returns-2 c = rw (c .before .before .before .before .enum-told2 .given .1) (c .before .before .of-answer .ensures)
 
 same-length-3 : tie.Need-same-length-3
 same-length-3 c = search needs
@@ -76,7 +63,7 @@ text-for-spec =
     enum-told
     line-requires
     enum-told-2
-    message-text-requires
+    of-answer-requires
     enum-told-3
     line-requires-2
     enum-told-4

@@ -2,14 +2,13 @@
 -- and lays its text behind the text before.
 use mathlib.Core.Path.{_≡_, refl, sym, ap, _∙_}
 use denote.Ref.{now}
-use Prim.Native.Nat.{_+_, _-_, _≤_}
-use lib.ListN.{length, drop, length-drop}
-use Rattle.lists.proofs.Laid.{to-end, back-end}
-use Rattle.records.specs.Records.{LENGTH, wholeOf, pdus}
-use Rattle.records.specs.Walks.{walkOver}
-use Rattle.records.proofs.Records.{whole-fits, pdu-lent}
+use Prim.Native.Nat.{ℕ, _+_, _-_, _≤_, _<_}
+use lib.ListN.{length, take, drop, length-drop}
+use Rattle.lists.proofs.Laid.{to-end, from-to, back-end}
+use Rattle.records.specs.Walks.{frontOf, walkThrough}
 use Rattle.records.proofs.Pieces.{no-room, no-record}
-use Rattle.walking.specs.Walking.{walkOf, program}
+use Rattle.walking.specs.Walking.{walkOf, extentFor, program}
+use Rattle.walking.proofs.Framings.{by-job, framed}
 use Rattle.walking.proofs.Walks.{from, Left, begins, turn, ends}
 use borrow.Author.Needs.{needs}
 use native.Mathlib.Omega.{arith}
@@ -17,7 +16,7 @@ use Rattle.walking.proofs.walk.Statement.{statement}
 use Rattle.walking.proofs.walk.Tie as tie
 
 abbrev Inv-loop : tie.InvT-loop
-Inv-loop job store₀ list input out₀ room next₀ at₀ used₀ store out next at used = (length store ≡ length store₀) × Left input out₀ (walkOver (program job list) (length out₀) (walkOf next₀ store₀) (pdus input)) out at used (from (program job list) input (length out₀) (walkOf next store) at used)
+Inv-loop job store₀ list input out₀ room next₀ at₀ used₀ store out next at used = (length store ≡ length store₀) × Left input out₀ (walkThrough (program job list) (length out₀) (walkOf next₀ store₀) input) out at used (from (program job list) input (length out₀) (walkOf next store) at used)
 
 abbrev μ-loop : tie.MeasureT-loop
 μ-loop job store₀ list input out₀ room next₀ at₀ used₀ store out next at used = length input - at
@@ -33,36 +32,34 @@ loop-holds c =
 sub-loop : tie.Need-sub-loop Inv-loop μ-loop
 sub-loop c = omega (arith, c .loop .inv .1 .used-in)
 
-sub-whole : tie.Need-sub-whole Inv-loop μ-loop
-sub-whole c = omega (arith, c .before .loop .inv .1 .at-in)
+sub-extent-for : tie.Need-sub-extent-for Inv-loop μ-loop
+sub-extent-for c = omega (arith, c .before .loop .inv .1 .at-in)
 
-part-whole-start : tie.Need-part-whole-start Inv-loop μ-loop
-part-whole-start c = omega (arith, c .before .loop .inv .1 .at-in)
+part-extent-for-start : tie.Need-part-extent-for-start Inv-loop μ-loop
+part-extent-for-start c = omega (arith, c .before .loop .inv .1 .at-in)
 
-part-whole-end : tie.Need-part-whole-end Inv-loop μ-loop
-part-whole-end c = omega (arith, c .before .loop .inv .1 .at-in)
+part-extent-for-end : tie.Need-part-extent-for-end Inv-loop μ-loop
+part-extent-for-end c = omega (arith, c .before .loop .inv .1 .at-in)
 
-whole-requires : tie.Need-whole-requires Inv-loop μ-loop
-whole-requires c κs = search needs
+extent-for-requires : tie.Need-extent-for-requires Inv-loop μ-loop
+extent-for-requires c κs = search needs
 
--- the record in front is whole: its length is among its bytes, and they are there
+-- the record in front is whole: it has a byte, and its bytes are there
 in-front : (c : tie.Else1 Inv-loop μ-loop) →
-    let n = c .before .whole .result in
+    let n = c .before .extent-for .result in
     let at-loop = c .before .before .before .before in
-    let input = now (at-loop .before .before .before .before .before .before .args .input) in
-    (n ≡ wholeOf (drop (at-loop .loop .at) input)) × ((LENGTH ≤ n) × (at-loop .loop .at + n ≤ length input))
+    let a = at-loop .before .before .before .before .before .before .args in
+    let input = now (a .input) in
+    (n ≡ extentFor (a .job) (drop (at-loop .loop .at) input)) × ((0 < n) × (at-loop .loop .at + n ≤ length input))
 in-front c =
     let at-loop = c .before .before .before .before in
     let at = at-loop .loop .at in
-    let input = now (at-loop .before .before .before .before .before .before .args .input) in
-    let whole = c .before .whole .ensures ∙ ap wholeOf (to-end input at) in
-    let fits = whole-fits (drop at input) in
-    let two = fits .1 (omega (arith, c .if1 .left)) in
+    let a = at-loop .before .before .before .before .before .before .args in
+    let input = now (a .input) in
+    let whole = c .before .extent-for .ensures ∙ ap (extentFor (a .job)) (to-end input at) in
+    let fits = by-job (a .job) .fits (drop at input) in
     let long = length-drop at input in
-    (whole, (omega arith, omega (arith, at-loop .loop .inv .1 .at-in)))
-
-add-start : tie.Need-add-start Inv-loop μ-loop
-add-start c = omega (arith, in-front c)
+    (whole, (omega (arith, c .if1 .left), omega (arith, at-loop .loop .inv .1 .at-in)))
 
 add-end : tie.Need-add-end Inv-loop μ-loop
 add-end c = omega (arith, in-front c)
@@ -106,7 +103,7 @@ loop-less c =
     omega (arith, in-front found)
 
 loop-again : tie.Need-loop-again Inv-loop μ-loop
-unfolding program
+unfolding program frontOf
 loop-again c =
     let stepped = c .before .before .before .before .before .before in
     let found = stepped .before .before .before .before in
@@ -117,9 +114,10 @@ loop-again c =
     let front = in-front found in
     let did = stepped .step .ensures in
     let roomy = rw (at-test .before .before .room-for .ensures) at (at-test .loop-test .taken) in
-    let n = found .before .whole .result in
+    let n = found .before .extent-for .result in
+    let lent = from-to input (l .at) n ∙ ap (λ (k : ℕ). take k (drop (l .at) input)) (front .0) in
     let text = back-end (l .out) (l .used) _ _ (l .inv .1 .used-in) (did .lines) in
-    (stepped .step .kept .1 .1 .0 ∙ l .inv .0, turn (program (a .job) (now (a .list))) input (now (a .out)) _ (l .store) (l .out) (l .next) (l .at) (l .used) n (l .inv .1) roomy (front .0) (omega arith) (pdu-lent input (l .at) n (front .0)) did text)
+    (stepped .step .kept .1 .1 .0 ∙ l .inv .0, turn (program (a .job) (now (a .list))) (framed (a .job) (now (a .list))) input (now (a .out)) _ (l .store) (l .out) (l .next) (l .at) (l .used) n (l .inv .1) roomy (front .0) (omega arith) lent did text)
 
 same-length : tie.Need-same-length Inv-loop μ-loop
 same-length c = c .before .loop .inv .0
@@ -141,11 +139,13 @@ same-length-4 : tie.Need-same-length-4 Inv-loop μ-loop
 same-length-4 c = c .before .before .before .before .loop .inv .1 .same-room
 
 returns-2 : tie.Need-returns-2 Inv-loop μ-loop
+unfolding program
 returns-2 c =
     let at-loop = c .before .before .before .before in
     let l = at-loop .loop in
-    let input = now (at-loop .before .before .before .before .before .before .args .input) in
-    let whole = c .before .whole .ensures ∙ ap wholeOf (to-end input (l .at)) in
+    let a = at-loop .before .before .before .before .before .before .args in
+    let input = now (a .input) in
+    let whole = c .before .extent-for .ensures ∙ ap (extentFor (a .job)) (to-end input (l .at)) in
     (ends _ _ _ (l .store) (l .out) (l .next) (l .at) (l .used) (l .inv .1) (no-record _ _ _ (drop (l .at) input) (omega (arith, c .if1 .taken, whole))), (l .inv .1 .at-in, omega (arith, l .inv .1 .used-in, l .inv .1 .same-room)))
 
 pub walk-spec : {M : Type 1} → statement M
@@ -157,11 +157,10 @@ walk-spec =
     room-for-requires
     loop-holds
     sub-loop
-    sub-whole
-    part-whole-start
-    part-whole-end
-    whole-requires
-    add-start
+    sub-extent-for
+    part-extent-for-start
+    part-extent-for-end
+    extent-for-requires
     add-end
     sub-step
     part-step-start

@@ -1,0 +1,4 @@
+pub mod Crossing
+pub mod Sending
+pub mod Pieces
+pub mod One
