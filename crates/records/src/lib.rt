@@ -67,11 +67,11 @@ pub fn whole(input: &[u8]) -> usize
         return 0;
     }
     let announced = numbers::number(&input[..LENGTH]);
-    let n = LENGTH + announced as usize;
-    if input.len() < n {
+    let size = LENGTH + announced as usize;
+    if input.len() < size {
         return 0;
     }
-    n
+    size
 }
 
 // How many bytes a record of the desk needs, as far as those that are there can tell. Where PDUs are not among the records,
