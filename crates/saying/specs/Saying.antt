@@ -35,7 +35,8 @@ saidText said sent =
 -- "a first line `event answer channel number sent`"
 unfoldable pub deskHeader : List ℕ
 deskHeader =
-    101 ∷ 118 ∷ 101 ∷ 110 ∷ 116 ∷ 32 ∷ 97 ∷ 110 ∷ 115 ∷ 119 ∷ 101 ∷ 114 ∷ 32 ∷ 99 ∷ 104 ∷ 97 ∷ 110 ∷ 110 ∷ 101 ∷ 108 ∷ 32 ∷ 110 ∷ 117 ∷ 109 ∷ 98 ∷ 101 ∷ 114 ∷ 32 ∷ 115 ∷ 101 ∷ 110 ∷ 116 ∷ 10 ∷ []
+    101 ∷ 118 ∷ 101 ∷ 110 ∷ 116 ∷ 32 ∷ 97 ∷ 110 ∷ 115 ∷ 119 ∷ 101 ∷ 114 ∷ 32 ∷ 99 ∷ 104 ∷ 97 ∷ 110 ∷ 110 ∷ 101 ∷ 108 ∷ 32
+    ∷ 110 ∷ 117 ∷ 109 ∷ 98 ∷ 101 ∷ 114 ∷ 32 ∷ 115 ∷ 101 ∷ 110 ∷ 116 ∷ 10 ∷ []
 
 unfoldable pub deskLineOf : ℕ → Said → ℕ → List ℕ
 deskLineOf place said sent = field place SPACE ++ saidText said sent
@@ -45,7 +46,8 @@ deskLineOf place said sent = field place SPACE ++ saidText said sent
 -- "end event answer channel number sent"
 unfoldable pub linkHeader : List ℕ
 linkHeader =
-    101 ∷ 110 ∷ 100 ∷ 32 ∷ 101 ∷ 118 ∷ 101 ∷ 110 ∷ 116 ∷ 32 ∷ 97 ∷ 110 ∷ 115 ∷ 119 ∷ 101 ∷ 114 ∷ 32 ∷ 99 ∷ 104 ∷ 97 ∷ 110 ∷ 110 ∷ 101 ∷ 108 ∷ 32 ∷ 110 ∷ 117 ∷ 109 ∷ 98 ∷ 101 ∷ 114 ∷ 32 ∷ 115 ∷ 101 ∷ 110 ∷ 116 ∷ 10 ∷ []
+    101 ∷ 110 ∷ 100 ∷ 32 ∷ 101 ∷ 118 ∷ 101 ∷ 110 ∷ 116 ∷ 32 ∷ 97 ∷ 110 ∷ 115 ∷ 119 ∷ 101 ∷ 114 ∷ 32 ∷ 99 ∷ 104 ∷ 97 ∷ 110 ∷ 110 ∷ 101 ∷ 108 ∷ 32
+    ∷ 110 ∷ 117 ∷ 109 ∷ 98 ∷ 101 ∷ 114 ∷ 32 ∷ 115 ∷ 101 ∷ 110 ∷ 116 ∷ 10 ∷ []
 
 -- the end that was called, before the line of its call
 unfoldable pub endField : End → List ℕ
