@@ -6,7 +6,7 @@ use Prim.Native.Nat.{ℕ, zero, suc, _+_, _-_, _≤_, _<_, min}
 use native.Mathlib.Nat.{add-sub-cancel-left}
 use native.Mathlib.Numerals.{add-one}
 use native.Mathlib.Omega.{arith}
-use lib.ListN.{length, take, drop, getD, set, length-drop, replicate, length-replicate, drop-of-length-le}
+use lib.ListN.{length, take, drop, getD, set, length-set, length-drop, replicate, length-replicate, drop-of-length-le}
 use lib.Seq.{sets-eq, length-sets, set-out, drop-cons, take-at, take-all, drop-drop, drop-length}
 use mathlib.Core.Logic.{⊎-elim}
 use borrow.Rule.Slice.PartMut.{putMid}
@@ -53,6 +53,18 @@ pub laid-past : (l : List ℕ) (at : ℕ) (bs : List ℕ) → length l ≤ at �
 unfolding laid
 laid-past l at [] h = refl
 laid-past l at (b ∷ bs) h = rw (set-out l at b h) (laid-past l (suc at) bs (omega arith))
+
+-- of bytes that are laid over the end, those past it don't count
+pub laid-fits : (l : List ℕ) (at : ℕ) (bs : List ℕ) → laid l at (take (length l - at) bs) ≡ laid l at bs
+unfolding laid
+laid-fits l at [] = let none : take {A = ℕ} (length l - at) [] ≡ [] = take-all (length l - at) [] (omega arith) in rw none
+laid-fits l at (b ∷ bs) =
+    ⊎-elim
+    (λ (h : at < length l).
+    let one : length l - at ≡ suc (length (set l at b) - suc at) = rw (length-set l at b) (omega arith) in
+    rw one (laid-fits (set l at b) (suc at) bs))
+    (λ (h : length l ≤ at). let none : length l - at ≡ 0 = omega arith in rw (none, laid-past l at (b ∷ bs) h))
+    (lt-or-le at (length l))
 
 -- one turn of a copy: the byte at i is laid, and those behind it are still to come
 pub laid-turn : (l bs : List ℕ) (i : ℕ) → i < length bs

@@ -4,7 +4,7 @@ use mathlib.Core.Path.{_≡_, sym, _∙_}
 use mathlib.Core.Logic.{_≢_, ⊎-elim}
 use mathlib.Core.Bool.{true, false}
 use mathlib.Core.List.{List, _++_, append-assoc}
-use Prim.Native.Nat.{ℕ, _+_, _-_, _*_, _≤_, _<_}
+use Prim.Native.Nat.{ℕ, _+_, _-_, _*_, _≤_, _<_, min}
 use native.Mathlib.Nat.{mul-le-mul-left}
 use native.Mathlib.Omega.{arith}
 use borrow.Author.Tests.{ltb-true, eqb-true, eq-eqb, lt-ltb}
@@ -15,7 +15,7 @@ use lib.Seq.{take-append-le, drop-append-le, take-at, drop-at, drop-drop}
 use Rattle.paper.specs.Sizes.{PART, PARTS, STORE}
 use Rattle.lists.specs.Bytes.{laid, zeros}
 use Rattle.lists.proofs.Cases.{both, lt-or-le}
-use Rattle.lists.proofs.Laid.{laid-eq, length-laid, mid-zeros, back, from-to}
+use Rattle.lists.proofs.Laid.{laid-eq, laid-fits, length-laid, whole, take-least, mid-zeros, back, from-to}
 use Rattle.store.specs.Parts.{part, withPart, hasPart, blockPut, partCleared}
 
 -- part j ends before part k begins
@@ -132,3 +132,33 @@ pub come-back : (store : List ℕ) (k : ℕ) (bytes : List ℕ) → PART * k + P
     → putMid (PART * k) (PART * k + PART - PART * k) store bytes ≡ withPart store k bytes
 unfolding withPart
 come-back store k bytes h e = back store (PART * k) (PART * k + PART) bytes (omega arith) h (omega arith)
+
+-- ---- a block that goes by way of an array
+
+module _ (part block room mid : List ℕ) (at n : ℕ) (h : at < length part) (long : length room ≡ length part)
+    (e : n ≡ min (length block) (length part - at)) where
+  pub block-front : length (take n block) ≡ n
+  block-front = simp length-take (omega arith)
+
+  pub room-front : length (take n room) ≡ n
+  room-front = simp length-take (omega arith)
+
+  module _ (copied : mid ≡ laid (take n room) 0 (take n block)) where
+    pub between : mid ≡ take n block
+    between = copied ∙ whole (take n room) (take n block) (block-front ∙ sym room-front)
+
+    pub in-array : take n (mid ++ drop n room) ≡ take n block
+    in-array = rw between (take-at (take n block) (drop n room) n block-front)
+
+    pub filled :
+        (last : List ℕ) → last ≡ laid (take (at + n - at) (drop at part)) 0 (take n (mid ++ drop n room))
+        → putMid at (at + n - at) part last ≡ laid part at block
+    filled last copied2 =
+        let there : length (take (at + n - at) (drop at part)) ≡ n = simp (length-take, length-drop) (omega arith) in
+        let all : last ≡ take n block =
+        copied2 ∙ rw in-array (whole (take (at + n - at) (drop at part)) (take n block) (block-front ∙ sym there)) in
+        let least : min (length part - at) (length block) ≡ n = omega arith in
+        let long2 : length (take n block) ≡ at + n - at = rw block-front (omega arith) in
+        let some : laid part at (take n block) ≡ laid part at block =
+        rw (← least, take-least (length part - at) block) (laid-fits part at block) in
+        rw all (back part at (at + n) (take n block) (omega arith) (omega arith) long2 ∙ some)

@@ -6,6 +6,9 @@ use paper::PART;
 use paper::PARTS;
 use paper::STORE;
 ghost use mathlib.Core.Path.{_≡_};
+ghost use lib.ListN.{length};
+ghost use Rattle.paper.specs.Sizes.{PART};
+ghost use Rattle.lists.specs.Bytes.{laid};
 ghost use Rattle.store.specs.Parts.{hasPart, blockPut, partCleared};
 
 // Whether a store of so many bytes has the part.
@@ -18,6 +21,31 @@ fn has_part(size: usize, k: usize) -> bool
     k < PARTS
 }
 
+// As many bytes as a part has.
+fn room() -> [u8; PART]
+    ensures { λ r. ⌜ length r ≡ PART ⌝ }
+{
+    [0; PART]
+}
+
+// The block goes into the part from a place on, as `lists::copy_at` has it, by way of an array of its own.
+//
+// The compiler makes of the two copies one call that moves bytes, and leaves the array out: what is lent to neither copy can't
+// overlap what is. Of a copy from one lent slice to another it makes a loop, since it isn't told that the two lie apart, which
+// takes twice as long.
+fn fill(part: &mut [u8], at: usize, block: &[u8])
+    requires { ⌜ length (now part) ≡ PART ⌝ }
+    ensures { λ _. ⌜ now (part .exit) ≡ laid (now (part .entry)) at (now (block .entry)) ⌝ }
+{
+    if PART <= at {
+        return;
+    }
+    let mut between = room();
+    let n = lists::lesser(block.len(), PART - at);
+    lists::copy(&mut between[..n], &block[..n]);
+    lists::copy(&mut part[at..at + n], &between[..n]);
+}
+
 // The block goes into part k from a place on. The part's other bytes stay, and so do all other parts.
 pub fn put_block(store: &mut [u8], k: usize, at: usize, block: &[u8])
     ensures { λ _. ⌜ now (store .exit) ≡ blockPut (now (store .entry)) k at (now (block .entry)) ⌝ }
@@ -26,7 +54,7 @@ pub fn put_block(store: &mut [u8], k: usize, at: usize, block: &[u8])
         return;
     }
     let start = PART * k;
-    lists::copy_at(&mut store[start..start + PART], at, block);
+    fill(&mut store[start..start + PART], at, block);
 }
 
 // Every byte of part k becomes zero. All other parts stay.

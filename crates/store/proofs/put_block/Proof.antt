@@ -33,13 +33,21 @@ mul-start : tie.Need-mul-start
 unfolding PART MESSAGE-MAX
 mul-start c = omega (arith, fits c)
 
-add-copy-at : tie.Need-add-copy-at
+add-fill : tie.Need-add-fill
 unfolding PART MESSAGE-MAX
-add-copy-at c = omega (arith, fits c)
+add-fill c = omega (arith, fits c)
 
-part-copy-at-end : tie.Need-part-copy-at-end
+part-fill-end : tie.Need-part-fill-end
 unfolding PART MESSAGE-MAX
-part-copy-at-end c = omega (arith, fits c)
+part-fill-end c = omega (arith, fits c)
+
+-- what is lent is a part
+fill-requires : tie.Need-fill-requires
+unfolding PART MESSAGE-MAX
+fill-requires c κs =
+    let here = c .before in
+    let a = here .before .before .before .before .args in
+    ap length (lent (now (a .store)) (a .k)) ∙ length-part (now (a .store)) (a .k) (fits here)
 
 returns-2 : tie.Need-returns-2
 unfolding PART MESSAGE-MAX
@@ -50,7 +58,7 @@ returns-2 c =
     let store = now (a .store) in
     let block = now (a .block) in
     let here = c .before .before .before .before in
-    let filled = c .before .before .copy-at .ensures ∙ ap (λ (l : List ℕ). laid l (a .at) block) (lent store (a .k)) in
+    let filled = c .before .before .fill .ensures ∙ ap (λ (l : List ℕ). laid l (a .at) block) (lent store (a .k)) in
     let long = length-laid (part store (a .k)) (a .at) block ∙ length-part store (a .k) (fits here) in
     rw filled (come-back store (a .k) (laid (part store (a .k)) (a .at) block) (fits here) long) ∙ sym
     (put-there store (a .k) (a .at) block (there here))
@@ -59,5 +67,5 @@ pub put-block-spec : {M : Type 1} → statement M
 put-block-spec =
     tie.close
     (tie.spec
-    (λ c κs. search needs) returns mul-start add-copy-at (λ c. search needs) (λ c. search needs) part-copy-at-end
-    (λ c κs. search needs) (λ c. search needs) returns-2)
+    (λ c κs. search needs) returns mul-start add-fill (λ c. search needs) (λ c. search needs) part-fill-end
+    fill-requires (λ c. search needs) returns-2)
