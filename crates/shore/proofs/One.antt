@@ -9,6 +9,10 @@ use Rattle.shore.proofs.request.Reads as request
 use Rattle.shore.proofs.receive.Reads as receive
 use Rattle.shore.proofs.open.Reads as local-open
 use Rattle.shore.proofs.local_close.Reads as local-close
+use Rattle.shore.proofs.hear.Reads as hear
+use Rattle.shore.proofs.closing.Reads as closing
+use Rattle.shore.proofs.decide.Reads as decide
+use Rattle.shore.proofs.awaited.Reads as awaited
 use Rattle.shore.proofs.concerns.Reads as concerns
 use Rattle.shore.proofs.value.Reads as value
 
@@ -41,3 +45,15 @@ concerns-one κs a r r′ s s′ p q = same p q
 
 pub value-one : (κs : _) (a : _) (r r′ : _) (s s′ : _) → value.Post κs a r s → value.Post κs a r′ s′ → r ≡ r′
 value-one κs a r r′ s s′ p q = same p q
+
+pub hear-one : (κs : _) (a : _) (r r′ : _) (s s′ : _) → hear.Post κs a r s → hear.Post κs a r′ s′ → r ≡ r′
+hear-one κs a r r′ s s′ p q = same p q
+
+pub closing-one : (κs : _) (a : _) (r r′ : _) (s s′ : _) → closing.Post κs a r s → closing.Post κs a r′ s′ → r ≡ r′
+closing-one κs a r r′ s s′ p q = same p q
+
+pub decide-one : (κs : _) (a : _) (r r′ : _) (s s′ : _) → decide.Post κs a r s → decide.Post κs a r′ s′ → r ≡ r′
+decide-one κs a r r′ s s′ p q = same p q
+
+pub awaited-one : (κs : _) (a : _) (r r′ : _) (s s′ : _) → awaited.Post κs a r s → awaited.Post κs a r′ s′ → r ≡ r′
+awaited-one κs a r r′ s s′ p q = same p q

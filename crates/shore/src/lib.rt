@@ -215,7 +215,7 @@ fn wrong_way() -> Heard
 }
 
 // What a PDU from the client asks. Requests are never read in one.
-fn hear(pdu: &[u8]) -> Heard
+pub fn hear(pdu: &[u8]) -> Heard
     ensures { λ r. ⌜ r ≡ heardIn (now (pdu .entry)) (readPdu false (now (pdu .entry))) ⌝ }
 {
     match reading::read(pdu, false) {
@@ -250,7 +250,7 @@ fn hear(pdu: &[u8]) -> Heard
 }
 
 // What a close by the host asks.
-fn closing(number: u32) -> Heard
+pub fn closing(number: u32) -> Heard
     ensures { λ r. ⌜ r ≡ closingOf number ⌝ }
 {
     bare(number, Matter::End { local: true })
@@ -427,7 +427,7 @@ fn decides(
 }
 
 // What a matter comes to, with a block of n bytes beside it.
-fn decide(
+pub fn decide(
     asked: u16,
     ready: bool,
     level: u8,
@@ -658,7 +658,7 @@ fn least_number(table: Table) -> u32
 }
 
 // The record that a number has from the local open on.
-fn awaited(level: u8, number: u32, class: u8) -> Record
+pub fn awaited(level: u8, number: u32, class: u8) -> Record
     ensures { λ r. ⌜ r ≡ awaitedRecord level number class ⌝ }
 {
     let class = channel::class_at(level, class) as u32;

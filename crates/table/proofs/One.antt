@@ -7,6 +7,7 @@ use Rattle.table.proofs.find_number.Reads as find-number-reads
 use Rattle.table.proofs.find_free.Reads as find-free-reads
 use Rattle.table.proofs.find_open.Reads as find-open-reads
 use Rattle.table.proofs.find.Reads as find-reads
+use Rattle.table.proofs.totals_after.Reads as totals-after-reads
 use Rattle.table.proofs.put.Reads as put-reads
 use Rattle.table.proofs.sound.Reads as sound-reads
 
@@ -27,6 +28,10 @@ find-open-one κs a r r′ s s′ p q = p ∙ sym q
 
 pub find-one : (κs : _) (a : _) (r r′ : _) (s s′ : _) → find-reads.Post κs a r s → find-reads.Post κs a r′ s′ → r ≡ r′
 find-one κs a r r′ s s′ p q = p ∙ sym q
+
+pub totals-after-one :
+    (κs : _) (a : _) (r r′ : _) (s s′ : _) → totals-after-reads.Post κs a r s → totals-after-reads.Post κs a r′ s′ → r ≡ r′
+totals-after-one κs a r r′ s s′ p q = p ∙ sym q
 
 pub put-one : (κs : _) (a : _) (r r′ : _) (s s′ : _) → put-reads.Post κs a r s → put-reads.Post κs a r′ s′ → r ≡ r′
 put-one κs a r r′ s s′ p q = p ∙ sym q

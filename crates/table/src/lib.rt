@@ -251,7 +251,7 @@ fn changed(totals: Totals, old: Record, new: Record) -> Totals
 }
 
 // The totals, after what becomes of a record.
-fn totals_after(totals: Totals, row: Record, change: Change) -> Totals
+pub fn totals_after(totals: Totals, row: Record, change: Change) -> Totals
     ensures { λ r. ⌜ r ≡ totalsAfter totals row change ⌝ }
 {
     match change {
