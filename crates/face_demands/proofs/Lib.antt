@@ -1,0 +1,11 @@
+pub mod Main
+pub mod Traces
+pub mod Rows
+pub mod Messages
+pub mod Saving
+pub mod Packing
+pub mod Client
+pub mod Shore
+pub mod Spoiled
+pub mod Refused
+pub mod ShoreRefused
