@@ -312,15 +312,11 @@ def first_difference(a, b):
     return 0, lines
 
 
-def main():
-    if len(sys.argv) < 7 or "--" not in sys.argv[5:]:
-        sys.exit(__doc__)
-    seed, count, keep = sys.argv[1], int(sys.argv[2]), sys.argv[3]
-    split = sys.argv.index("--", 5)
-    walkers = [sys.argv[4:split], sys.argv[split + 1 :]]
+def compare(named, keep, walkers):
+    """Runs both walkers on each input, given with its name. The status: 1 at the first difference."""
     runs = pdus = 0
     words = {}
-    for name, stream in inputs(seed, count):
+    for name, stream in named:
         a, b = (output(walker, stream) for walker in walkers)
         if a != b:
             os.makedirs(keep, exist_ok=True)
@@ -335,8 +331,10 @@ def main():
         runs += 1
         for text in a.split(b"\n")[:-1]:
             parts = text.decode().split(" ")
-            if parts[0] == "pdu":
+            if parts[0] in ("pdu", "event", "end"):
                 continue
+            if parts[0] in ("panel", "shore"):
+                parts = parts[1:]
             if len(parts) == 2 and parts[1].isdigit():
                 words[parts[0]] = words.get(parts[0], 0) + int(parts[1])
                 pdus += 1
@@ -350,6 +348,20 @@ def main():
     print(f"{runs} inputs, {pdus} lines, no difference")
     print(", ".join(f"{word}: {words[word]}" for word in sorted(words)))
     return 0
+
+
+def both(words, usage):
+    """The two walkers of a command line, with `--` between."""
+    if "--" not in words[1:-1]:
+        sys.exit(usage)
+    split = words.index("--", 1)
+    return [words[:split], words[split + 1 :]]
+
+
+def main():
+    if len(sys.argv) < 7:
+        sys.exit(__doc__)
+    return compare(inputs(sys.argv[1], int(sys.argv[2])), sys.argv[3], both(sys.argv[4:], __doc__))
 
 
 if __name__ == "__main__":

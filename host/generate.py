@@ -1,0 +1,152 @@
+#!/usr/bin/env python3
+"""Compares two programs on generated records of `moves`, of `desk` or of `link` (docs/PROGRAMS.md).
+
+usage: generate.py moves|desk|link SEED COUNT KEEP PROGRAM [WORD..] -- PROGRAM [WORD..]
+
+COUNT inputs are made from SEED: sessions of a host and its peer, some of them disturbed. bench/fuzz.py compares, and keeps an input on
+which the two differ in the folder KEEP.
+"""
+import os
+import random
+import sys
+
+sys.path.insert(0, os.path.join(os.path.dirname(os.path.abspath(__file__)), "..", "bench"))
+sys.dont_write_bytecode = True
+import fuzz  # noqa: E402
+from fuzz import capabilities, close, cut_off, data, data_first, garbled, head, record  # noqa: E402
+
+
+def moves(seed, i):
+    """The walker's input with local closes among its records."""
+    r = random.Random(f"moves/{seed}/{i}")
+    pdus = (fuzz.well_formed, fuzz.at_boundary, fuzz.spoiled)[i % 3](r)
+    numbers = [0, 1, 5, 255, 256, 65535, 65536, 2**32 - 1] + [p[1] for p in pdus if len(p) > 1 and p[0] >> 4 == 1]
+    for _ in range(r.randint(1, 2 + len(pdus) // 3)):
+        number = r.choice(numbers).to_bytes(4, "little")
+        pdus.insert(r.randint(0, len(pdus)), b"\0" + number[: r.choice([4, 4, 1, 2, 0])] + r.randbytes(r.choice([0, 0, 0, 3])))
+    return cut_off(r, b"".join(map(record, pdus)))
+
+
+# ---- the desk's records
+
+REQUEST, OPEN, CLOSE = 65533, 65534, 65535
+
+
+def host(length, *fields):
+    return length.to_bytes(2, "little") + b"".join(fields)
+
+
+def request(r, version):
+    charges = r.randbytes(8) if r.random() < 0.5 else bytes(8)
+    return host(REQUEST, version.to_bytes(2, "little"), charges)
+
+
+def local_open(r):
+    name = r.choice([b"PUMP"] * 8 + [b"", b"LAMP", b"PU\0MP", b"P" * 1596, b"P" * 1597, b"P" * 1598, b"P" * 65535])
+    return host(OPEN, bytes([r.choice([0, 1, 2, 3, 3, 4, 255])]), len(name).to_bytes(2, "little"), name)
+
+
+def local_close(number):
+    return host(CLOSE, number.to_bytes(4, "little"))
+
+
+def response(r, number):
+    """A Create response, mostly of status 0."""
+    status = r.choice([0] * 6 + [1, 2**31 - 1, 2**31, 2**32 - 1, 0x80070490, 0x8007000E])
+    return record(head(r, 1, r.randrange(4), number) + status.to_bytes(4, "little"))
+
+
+def answer(r):
+    """A Capabilities response; sometimes what is none."""
+    if r.random() < 0.1:
+        return record(capabilities(r, r.randrange(5)))
+    return record(bytes([0x50 + 4 * r.randrange(4), 0]) + r.choice([1, 2, 2, 3, 3, 0, 4]).to_bytes(2, "little"))
+
+
+def block(r, number):
+    """A block of data: whole messages, and pieces of some of few lengths, so that they often fit together."""
+    what = r.randrange(6)
+    if what == 0:
+        return record(data_first(r, number, r.choice([2, 4, 4096, 4097]), r.choice([0, 1, 2, 1500])))
+    if what == 1:
+        return record(data_first(r, number, 4, 2))
+    if what == 2:
+        return record(garbled(r, number)[: REQUEST - 1])
+    return record(data(r, number, r.choice([0, 1, 2, 2, 2, 100, 1590])))
+
+
+def garbage(r):
+    return record(r.randbytes(r.choice([0, 1, 2, 5, 9, 30, 1600, 1601, 4000])))
+
+
+def event(r, top):
+    """An event of a host or of its client, on a number that is likely to be in use."""
+    number = r.choice([r.randint(1, top)] * 12 + [0, 17, 255, 256, 65536, 2**32 - 1])
+    return r.choice(
+        [local_open(r)] * 4
+        + [response(r, number)] * 4
+        + [block(r, number)] * 8
+        + [local_close(number), record(close(r, number)), garbage(r), request(r, r.randrange(5)), answer(r)]
+    )
+
+
+def desk(seed, i):
+    r = random.Random(f"desk/{seed}/{i}")
+    events = []
+    if r.random() < 0.9:
+        events.append(host(REQUEST, r.choice([1, 2, 3]).to_bytes(2, "little"), bytes(8)))
+    if r.random() < 0.9:
+        events.append(record(b"\x50\0" + r.choice([1, 2, 3]).to_bytes(2, "little")))
+    top = r.choice([1, 2, 3, 17])
+    if r.random() < 0.6:
+        for number in range(1, 1 + r.choice([top, 16, 17])):
+            events.append(host(OPEN, b"\1\4\0PUMP"))
+            if r.random() < 0.8:
+                events.append(record(head(r, 1, 0, number) + bytes(4)))
+    events += [event(r, top) for _ in range(r.randint(0, 60))]
+    for _ in range(r.randrange(3)):
+        j, k = r.randrange(len(events) + 1), r.randrange(len(events) + 1)
+        events[min(j, k) : min(j, k) + 2] = events[min(j, k) : min(j, k) + 2][::-1]
+    return cut_off(r, b"".join(events))
+
+
+# ---- both ends' records
+
+
+def message(r, number):
+    """A message of either host, mostly with all its PDUs sent."""
+    length = r.choice([0, 1, 5, 100, 1590, 1591, 1596, 1597, 3194, 3195, 4096, 4097])
+    pdus = r.choice([255] * 6 + [0, 1, 2, 3])
+    return bytes([r.choice([2, 3])]) + number.to_bytes(4, "little") + length.to_bytes(2, "little") + r.randbytes(length) + bytes([pdus])
+
+
+def link(seed, i):
+    r = random.Random(f"link/{seed}/{i}")
+    ready = b"\0" + host(REQUEST, r.choice([1, 2, 3]).to_bytes(2, "little"), bytes(8))
+    opened = b"\0" + host(OPEN, b"\1\4\0PUMP")
+    top = r.choice([1, 2, 3, 17])
+    events = [ready] * (r.random() < 0.9) + [opened] * r.choice([0, 1, top, top])
+    for _ in range(r.randint(0, 40)):
+        number = r.choice([r.randint(1, top)] * 9 + [0, 17, 256, 2**32 - 1])
+        panel_close = b"\1" + number.to_bytes(4, "little")
+        events.append(
+            r.choice([message(r, number)] * 10 + [opened] * 3 + [b"\0" + local_open(r), b"\0" + local_close(number), panel_close])
+        )
+        if r.random() < 0.05:
+            events += [b"\4"] + [ready] * (r.random() < 0.9) + [opened] * r.choice([0, 1, top])
+        if r.random() < 0.01:
+            events.append(bytes([r.randrange(256)]))
+    return cut_off(r, b"".join(events))
+
+
+def main():
+    makers = {"moves": moves, "desk": desk, "link": link}
+    if len(sys.argv) < 8 or sys.argv[1] not in makers:
+        sys.exit(__doc__)
+    make, seed, count, keep = makers[sys.argv[1]], sys.argv[2], int(sys.argv[3]), sys.argv[4]
+    named = ((f"{sys.argv[1]}-{seed}-{i}", make(seed, i)) for i in range(count))
+    return fuzz.compare(named, keep, fuzz.both(sys.argv[5:], __doc__))
+
+
+if __name__ == "__main__":
+    sys.exit(main())
