@@ -1,5 +1,5 @@
 -- "The walker program reads PDUs from standard input, each after its length in two bytes, little-endian."
-use Prim.Native.Nat.{ℕ, _+_}
+use Prim.Native.Nat.{ℕ, _+_, _^_}
 use mathlib.Core.Bool.{cond}
 use mathlib.Core.List.{List}
 use lib.Dec.{ltb}
@@ -24,3 +24,7 @@ wholeOf input =
 -- the PDU of a record
 unfoldable pub pduIn : List ℕ → List ℕ
 pduIn bytes = drop LENGTH bytes
+
+-- places of records are counted in 64 bits, which no run uses up
+abbrev pub PLACES : ℕ
+PLACES = 2 ^ 64

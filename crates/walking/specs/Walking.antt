@@ -1,6 +1,6 @@
 -- Walks over records: each record goes to the client's step or to the shore's, and what is written says what was answered; or
 -- it is only read, strictly, and what is written says whether it was accepted.
-use Prim.Native.Nat.{ℕ, _+_, _-_, _*_, _%_, _^_, _≤_}
+use Prim.Native.Nat.{ℕ, _+_, _-_, _*_, _%_, _≤_}
 use mathlib.Core.Bool.{Bool, true, false, cond, _&&_}
 use mathlib.Core.List.{List, []}
 use lib.Dec.{eqb}
@@ -24,7 +24,7 @@ use Rattle.handing.specs.Handing.{messageText}
 use Rattle.linking.specs.Linking.{bothOf, bothStarted, Steps as Comes, linkStep, STEP-MAX}
 use Rattle.hosting.specs.Hosting.{hosted}
 use Rattle.records.specs.declared.Due.the-variants.{Read}
-use Rattle.records.specs.Records.{wholeOf, pduIn}
+use Rattle.records.specs.Records.{PLACES, wholeOf, pduIn}
 use Rattle.records.specs.Desk.{deskWhole, linkWhole}
 use Rattle.records.specs.Walks.{Program, output, Went, Turned}
 use Rattle.walking.specs.declared.Job.{Job}
@@ -65,10 +65,6 @@ beginning =
       had = 0;
       due = Read;
     }
-
--- places are counted in 64 bits, which no run uses up
-abbrev pub PLACES : ℕ
-PLACES = 2 ^ 64
 
 -- the place of the record behind
 abbrev pub nextPlace : Walk → ℕ
