@@ -339,7 +339,9 @@ def compare(named, keep, walkers):
                 words[parts[0]] = words.get(parts[0], 0) + int(parts[1])
                 pdus += 1
                 continue
-            if len(parts) == 3:
+            if parts[0] in ("yes", "no", "cut"):
+                word = parts[0] if len(parts) == 1 else f"no {parts[-1]}"
+            elif len(parts) == 3:
                 word = "messages of no bytes" if parts[2] == "-" else "messages of bytes"
             else:
                 word = parts[1] + " " + parts[3] if parts[1] in ("refused", "declined") else parts[1]

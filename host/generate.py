@@ -1,7 +1,7 @@
 #!/usr/bin/env python3
-"""Compares two programs on generated records of `moves`, of `desk` or of `link` (docs/PROGRAMS.md).
+"""Compares two programs on generated inputs of `moves`, of `desk`, of `link` or of `sender` (docs/PROGRAMS.md).
 
-usage: generate.py moves|desk|link SEED COUNT KEEP PROGRAM [WORD..] -- PROGRAM [WORD..]
+usage: generate.py moves|desk|link|sender SEED COUNT KEEP PROGRAM [WORD..] -- PROGRAM [WORD..]
 
 COUNT inputs are made from SEED: sessions of a host and its peer, some of them disturbed. bench/fuzz.py compares, and keeps an input on
 which the two differ in the folder KEEP.
@@ -139,8 +139,62 @@ def link(seed, i):
     return cut_off(r, b"".join(events))
 
 
+# ---- a sender's PDUs
+
+
+def cut(r, number, message):
+    """A message as some sender may cut it: one Data, or a Data First and blocks of any lengths."""
+    if len(message) <= 1590 and r.random() < 0.3:
+        return [data(r, number, 0) + message]
+    first = data_first(r, number, len(message), 0)
+    pdus, at, most = [], 0, r.choice([1590, 1590, 1600 - len(first), 1000, 500 + len(message) // 3])
+    while at < len(message) or not pdus:
+        size = r.choice([most, most, most, r.randint(0, most)])
+        pdus.append((data(r, number, 0) if pdus else first) + message[at : at + size])
+        at += size
+    return pdus
+
+
+def disturbed(r, number, pdus):
+    """The same with one thing wrong, or not."""
+    what = r.randrange(12)
+    if not pdus or not all(pdus):
+        return pdus
+    j = r.randrange(len(pdus))
+    if what == 0:
+        pdus.pop(j)
+    elif what == 1:
+        pdus.insert(j, pdus[r.randrange(len(pdus))])
+    elif what == 2:
+        pdus[j] = pdus[j][:-1]
+    elif what == 3:
+        pdus[j] += r.randbytes(1)
+    elif what == 4:
+        k = r.randrange(len(pdus[j]))
+        pdus[j] = pdus[j][:k] + bytes([pdus[j][k] ^ 1 << r.randrange(8)]) + pdus[j][k + 1 :]
+    elif what == 5:
+        other = r.choice([number, number ^ 1, 7])
+        strangers = [close(r, other), data(r, other, 0), data(r, other, 2), garbled(r, other), capabilities(r), fuzz.create(r, other), b""]
+        pdus.insert(r.randint(0, len(pdus)), r.choice(strangers))
+    elif what == 6:
+        pdus.append(data(r, number, r.choice([0, 1])))
+    return pdus
+
+
+def sender(seed, i):
+    r = random.Random(f"sender/{seed}/{i}")
+    number = r.choice(fuzz.NUMBERS)
+    message = r.randbytes(r.choice(fuzz.LENGTHS + [3, 5, 20, 4097, 5000]))
+    pdus = disturbed(r, number, disturbed(r, number, cut(r, number, message)))
+    if r.random() < 0.1:
+        message = message[: r.randint(0, len(message))] + r.randbytes(r.choice([0, 0, 1]))
+    head = number.to_bytes(4, "little") + len(message).to_bytes(2, "little") + message
+    whole = head + b"".join(map(record, pdus))
+    return cut_off(r, whole) if r.random() < 0.2 else whole
+
+
 def main():
-    makers = {"moves": moves, "desk": desk, "link": link}
+    makers = {"moves": moves, "desk": desk, "link": link, "sender": sender}
     if len(sys.argv) < 8 or sys.argv[1] not in makers:
         sys.exit(__doc__)
     make, seed, count, keep = makers[sys.argv[1]], sys.argv[2], int(sys.argv[3]), sys.argv[4]

@@ -1,7 +1,7 @@
 /*
  * The programs that walk, as a host in C over the archive: each prints what the proved program of that name prints.
  *
- *     walk walker|messages|moves|lamp|desk|link
+ *     walk walker|messages|moves|lamp|desk|link|sender
  *
  * Records come from standard input and lines go to standard output, as docs/PROGRAMS.md has them. The one listener is PUMP.
  */
@@ -338,6 +338,80 @@ static void walk_link(void)
     }
 }
 
+/* ---- the sender's judge: PDUs received on one channel, open and idle */
+
+static uint8_t expected[RECORD_MAX];
+
+/* The end is made ready, and the channel opened. */
+static void open_for(uint32_t number)
+{
+    static const uint8_t capabilities[] = {0x50, 0, 1, 0};
+    uint8_t create[10] = {0x12, 0, 0, 0, 0, 'P', 'U', 'M', 'P', 0};
+    for (size_t i = 0; i < 4; i++)
+        create[1 + i] = (uint8_t)(number >> 8 * i);
+    receive(capabilities, sizeof capabilities);
+    receive(create, sizeof create);
+}
+
+/* The reason for which a PDU that was answered so is at fault by itself, or none. */
+static const char *fault(uint32_t number, size_t len, uint64_t answer)
+{
+    int refused = dvc_word(answer) == DVC_REFUSED;
+    if (refused && dvc_number(answer) >= 2 && dvc_number(answer) <= 5)
+        return "reading";
+    if (len == 0 || (record[0] >> 4 != 2 && record[0] >> 4 != 3))
+        return "kind";
+    if (dvc_channel(answer) != number)
+        return "channel";
+    return refused ? "steps" : NULL;
+}
+
+static int same(uint64_t answer, size_t len)
+{
+    return dvc_message_len(answer) == len && (len == 0 || memcmp(dvc_message(answer, panel.store), expected, len) == 0);
+}
+
+static void walk_sender(void)
+{
+    uint8_t head[6];
+    size_t message_len, len;
+    enum got got;
+    const char *why = NULL;                  /* of the first PDU at fault */
+    uint64_t at = 0;                         /* its place, or that of the next PDU */
+    enum { GOING, RIGHT, OTHER } up = GOING; /* what the PDU before handed up */
+
+    if (take(head, sizeof head) != WHOLE || ((message_len = little(head + 4, 2)) > 0 && take(expected, message_len) != WHOLE)) {
+        puts("cut");
+        return;
+    }
+    uint32_t number = little(head, 4);
+    open_for(number);
+    while ((got = take_length(&len)) != NOTHING) {
+        if (got == PART || (len > 0 && take(record, len) != WHOLE)) {
+            puts("cut");
+            return;
+        }
+        if (why)
+            continue;
+        if (up != GOING) {
+            why = "before";
+            at--;
+            continue;
+        }
+        uint64_t answer = receive(record, len);
+        why = fault(number, len, answer);
+        if (why)
+            continue;
+        at++;
+        if (dvc_word(answer) == DVC_MESSAGE)
+            up = same(answer, message_len) ? RIGHT : OTHER;
+    }
+    if (why)
+        printf("no %" PRIu64 " %s\n", at, why);
+    else
+        puts(up == GOING ? "no early" : up == RIGHT ? "yes" : "no bytes");
+}
+
 /* ---- the program */
 
 /* Runs the job of that name, both ends started. Answers 0 where there is none. */
@@ -357,6 +431,10 @@ static int run(const char *name)
         walk_link();
         return 1;
     }
+    if (strcmp(name, "sender") == 0) {
+        walk_sender();
+        return 1;
+    }
     for (size_t i = 0; i < sizeof jobs / sizeof *jobs; i++)
         if (strcmp(name, jobs[i].name) == 0) {
             walk_panel(&jobs[i]);
@@ -373,7 +451,7 @@ int main(int argc, char **argv)
         return 1;
     }
     if (argc != 2 || !run(argv[1])) {
-        fputs("usage: walk walker|messages|moves|lamp|desk|link\n", stderr);
+        fputs("usage: walk walker|messages|moves|lamp|desk|link|sender\n", stderr);
         return 2;
     }
     if (ferror(stdin) || fflush(stdout) != 0 || ferror(stdout)) {
