@@ -40,8 +40,8 @@ use Rattle.shore.specs.Rules.{common, deed}
 use Rattle.shore.specs.Events.{Event, Unreadable, Asking, Response, Opening, Of}
 use Rattle.shore.specs.Shore.{Standing, stateIn, Stepped, refused, asking, readied, responded, levelBetween, numberNext, classIn}
 use Rattle.shore.specs.Shore.{opening, done, finished, tooSoonFor, stepped}
+use Rattle.shore.proofs.Least.{least-range}
 use Rattle.shore_demands.specs.Runs.{granted, isOf}
-use Rattle.shore_demands.proofs.Least.{least-range}
 use Rattle.shore_demands.proofs.Frame.{ruled, FineEvent, step-own, step-said, step-sent, step-other, Grants, denied-or-granted}
 use Rattle.shore_demands.proofs.Frame.{waiting, next-shut, open-own}
 use Rattle.joined.specs.Ends.{post}

@@ -5,13 +5,13 @@ use mathlib.Core.Path.{_≡_, refl, sym, ap, _∙_}
 use mathlib.Core.Logic.{_≢_, _⊎_, inl, inr, ⊎-elim}
 use mathlib.Core.Bool.{Bool, true, false, cond, not, _&&_, _||_}
 use mathlib.Core.List.{List}
-use Prim.Native.Nat.{ℕ, _≤_, min}
+use Prim.Native.Nat.{ℕ, _≤_, _<_, min}
 use native.Mathlib.Omega.{arith}
-use borrow.Author.Tests.{eqb-false, ne-eqb, ltb-false, not-false}
+use borrow.Author.Tests.{eqb-false, ne-eqb, ltb-true, ltb-false, not-false}
 use lib.Dec.{eqb, ltb}
 use lib.ListN.{length}
 use lib.IntN.{ℤ}
-use Rattle.paper.specs.Sizes.{PART, PDU-MAX}
+use Rattle.paper.specs.Sizes.{PARTS, PART, PDU-MAX}
 use Rattle.paper.specs.declared.Refusal.{Refusal}
 use Rattle.paper.specs.declared.Refusal.the-variants.{WrongTime, BadField, OverLimit, AllTaken}
 use Rattle.lists.specs.Bytes.{zeros}
@@ -23,6 +23,7 @@ use Rattle.writing.specs.Writing.{badRequest, badCapabilities}
 use Rattle.channel.specs.declared.Record.{Record}
 use Rattle.channel.specs.Channel.{blank, Act, BadCreate, Create, Bring, Garbled, Closing, LocalClose, View, Shut, Open, Room, NoRoom}
 use Rattle.channel.specs.Channel.{act, opening as openings}
+use Rattle.table.specs.declared.Table.{Table}
 use Rattle.table.specs.Table.{numberPlace, freePlace, recordAt, holds}
 use Rattle.table.specs.Sound.{goodStage}
 use Rattle.table.proofs.Twice.{holds-own}
@@ -43,8 +44,8 @@ use Rattle.shore.specs.Rules.{Deed, Answered, Acts, Does, isBelowZero, awaitedR
 use Rattle.shore.specs.Events.{Event, Unreadable, Asking, Response, Opening, Of}
 use Rattle.shore.specs.Shore.{Standing, stateIn, withState, Stepped, stepTo, refused, asking, levelBetween, readied, responded, numberNext, classIn}
 use Rattle.shore.specs.Shore.{allTaken, awaiting, opening, finished, done, stepped}
+use Rattle.shore.proofs.Least.{least-none}
 use Rattle.shore_demands.specs.Runs.{isAwaited, granted, isOf}
-use Rattle.shore_demands.proofs.Least.{is-free, least-none}
 
 -- ---- one number's rules fit where it stands
 
@@ -141,6 +142,11 @@ opens st name class =
     stepTo (withState st (stateOf (awaiting (st .shore .table) (numberNext st) class) (st .store))) (Awaited (numberNext st))
     (createRequestBytes (numberNext st) (classIn st class) name)
 
+-- a table that isn't full has a free record
+is-free : (t : Table) → allTaken t ≡ false → freePlace t < PARTS
+unfolding allTaken
+is-free t h = ltb-true (freePlace t) PARTS (not-false (ltb (freePlace t) PARTS) h)
+
 -- a step that is a refusal
 pub record Denied (st : Standing) (s : Stepped) : Type 0 where
   pub why : Refusal
@@ -189,7 +195,7 @@ module _ (st : Standing) (name : List ℕ) (class : ℕ) where
   module _ (g : Steady (stateIn st)) (o : Grants st name class (opening st name class)) where
     -- the number has no record yet
     pub next-shut : view (numberNext st) (stateIn st) ≡ Shut
-    next-shut = view-shut (numberNext st) (stateIn st) (numberPlace (numberNext st) (st .shore .table)) refl (least-none (st .shore .table) (g .rows) (o .room))
+    next-shut = view-shut (numberNext st) (stateIn st) (numberPlace (numberNext st) (st .shore .table)) refl (least-none (st .shore .table) (g .rows))
 
     -- it is saved there, and the part stays as it was
     pub open-state : opening st name class .state ≡ withState st (save (numberNext st) (stateIn st) (view (numberNext st) (stateIn st)) waiting)

@@ -1,5 +1,4 @@
 pub mod Main
-pub mod Least
 pub mod Frame
 pub mod Machine
 pub mod Telling

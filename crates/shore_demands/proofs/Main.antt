@@ -5,7 +5,7 @@ use Rattle.shore_demands.specs.Demands.{AnyOrderOfCalls, BadInputGetsIts
 use Rattle.shore_demands.specs.Demands.{WhatItSendsIsReadBack, CutByUsIsHandedUpOnce, AConnectionJustMadeReady, TwoOrdersMeanThis}
 use Rattle.shore_demands.specs.Demands.{EitherOrderIsTheSame, TotalsAreTheRecount}
 use Rattle.shore_demands.specs.Runs.{ends, startedOn}
-use Rattle.shore_demands.proofs.Least as least
+use Rattle.shore.proofs.Least as least
 use Rattle.shore_demands.proofs.Frame as frame
 use Rattle.shore_demands.proofs.Machine as machine
 use Rattle.shore_demands.proofs.Ready as ready

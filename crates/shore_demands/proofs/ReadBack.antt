@@ -36,7 +36,7 @@ use Rattle.shore.specs.Rules.{asOpen, common, deed}
 use Rattle.shore.specs.Numbers.{leastNumber}
 use Rattle.shore.specs.Shore.{standing, stateIn, Stepped, asking, finished, done, stepped, wholeOf, guarded, locallyClosed}
 use Rattle.shore.specs.Shore.{sendsOf, badOut, storeless, sending, requested, locallyOpened}
-use Rattle.shore_demands.proofs.Least.{least-range}
+use Rattle.shore.proofs.Least.{least-range}
 use Rattle.shore_demands.proofs.Frame.{denied-or-granted}
 
 -- what is laid at the front of a buffer with room for it

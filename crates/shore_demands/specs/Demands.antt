@@ -35,7 +35,7 @@ use Rattle.shore.specs.Rules.{Deed, Acts, deed}
 use Rattle.shore.specs.Numbers.{leastNumber}
 use Rattle.shore.specs.Events.{Event, Of, eventOf}
 use Rattle.shore.specs.Shore.{Standing, stateIn, stepped, badOut, received, locallyClosed}
-use Rattle.shore.specs.Shore.{requested, locallyOpened, started, allTaken}
+use Rattle.shore.specs.Shore.{requested, locallyOpened, started}
 use Rattle.shore_demands.specs.Runs.{Call, after, told, toldTo, ends, eventIn, isOf, isEventOf, ownEvents}
 use Rattle.shore_demands.specs.Runs.{startedOn, JustReady, Running}
 use Rattle.shore_demands.specs.Alone.{As, toldAlone}
@@ -132,9 +132,8 @@ pub record StepsAreSo : Type 0 where
   pub others :
       (n : ℕ) (st : Standing) → Steady (stateIn st) → (e : Event) → isOf n st e ≡ false
       → view n (stateIn (stepped st e .state)) ≡ view n (stateIn st)
-  -- "under the smallest number from 1 up that no open or awaited channel has": while a record is free there is one
-  pub smallest-has-no-record :
-      (t : Table) → length (t .records) ≡ PARTS → allTaken t ≡ false → PARTS ≤ numberPlace (leastNumber t) t
+  -- "under the smallest number from 1 up that no open or awaited channel has"
+  pub smallest-has-no-record : (t : Table) → length (t .records) ≡ PARTS → PARTS ≤ numberPlace (leastNumber t) t
   pub each-smaller-has-one : (t : Table) (i : ℕ) → 1 ≤ i → i < leastNumber t → numberPlace i t < PARTS
   pub from-1-up : (t : Table) → 1 ≤ leastNumber t
   -- a status below zero and a close leave the record as Start made it, and the part zero

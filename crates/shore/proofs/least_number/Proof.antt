@@ -1,35 +1,16 @@
 -- `shore::least_number` meets its contract: each number before this one has a record.
 use mathlib.Core.Path.{_≡_, refl, sym, ap, _∙_}
-use Prim.Native.Nat.{ℕ, suc, _+_, _-_, _≤_, _<_}
+use Prim.Native.Nat.{ℕ, _+_, _≤_, _<_}
 use native.Mathlib.Omega.{arith}
-use borrow.Author.Tests.{lt-ltb, le-ltb}
 use Rattle.paper.specs.Sizes.{PARTS}
 use Rattle.table.specs.declared.Table.{Table}
 use Rattle.table.specs.declared.Found.{Found}
 use Rattle.table.specs.Table.{numberPlace, foundIn}
 use Rattle.shore.specs.Numbers.{leastFrom, leastNumber}
+use Rattle.shore.proofs.Least.{left, hit, miss, behind}
 use borrow.Author.Needs.{needs}
 use Rattle.shore.proofs.least_number.Statement.{statement}
 use Rattle.shore.proofs.least_number.Tie as tie
-
--- how many numbers are still to be tried
-abbrev left : ℕ → ℕ
-left number = PARTS + 1 - number
-
-hit : (number : ℕ) (t : Table) → number ≤ PARTS → PARTS ≤ numberPlace number t → leastFrom (left number) number t ≡ number
-unfolding leastFrom
-hit number t h e = let one : left number ≡ suc (PARTS - number) = omega arith in rw (one, le-ltb (numberPlace number t) PARTS e) refl
-
-miss : (number : ℕ) (t : Table) → number ≤ PARTS → numberPlace number t < PARTS → leastFrom (left (number + 1)) (number + 1) t ≡ leastFrom (left number) number t
-unfolding leastFrom
-miss number t h e =
-    let one : left number ≡ suc (PARTS - number) = omega arith in
-    let fewer : left (number + 1) ≡ PARTS - number = omega arith in
-    rw (one, fewer, lt-ltb (numberPlace number t) PARTS e) refl
-
-behind : (number : ℕ) (t : Table) → PARTS < number → leastFrom (left number) number t ≡ number
-unfolding leastFrom
-behind number t h = let none : left number ≡ 0 = omega arith in rw none refl
 
 found-place : (number : ℕ) (t : Table) (f : Found) → f ≡ foundIn number t → f .place ≡ numberPlace number t
 unfolding foundIn

@@ -5,8 +5,9 @@ use borrow.Author.Tests.{not-true, not-false}
 use denote.Ref.{now}
 use Rattle.paper.specs.Sizes.{PARTS}
 use Rattle.shore.specs.Numbers.{leastFrom, leastNumber}
+use Rattle.shore.proofs.Least.{left, hit, miss, behind}
 use Rattle.saved.specs.Saved.{tableIn}
-use Rattle.shore_face.proofs.Least.{left, hit, miss, behind, seat, no-seat}
+use Rattle.shore_face.proofs.Least.{seat, no-seat}
 use borrow.Author.Needs.{needs}
 use native.Mathlib.Omega.{arith}
 use Rattle.shore_face.proofs.least_number.Statement.{statement}

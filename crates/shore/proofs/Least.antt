@@ -1,28 +1,30 @@
--- The smallest number from 1 up that no record has: while a record is free there is one of 1 to 17, and each smaller one has a record.
+-- The smallest number from 1 up that no record has: there is one of 1 to 17, since sixteen records have no seventeen numbers, and each
+-- smaller one has a record.
 -- Assumes nothing.
 use mathlib.Core.Path.{_≡_, refl, sym, _∙_}
-use mathlib.Core.Bool.{Bool, true, false, cond, not}
+use mathlib.Core.Bool.{Bool, true, false, cond}
+use mathlib.Core.Logic.{⊎-elim}
 use mathlib.Core.List.{List, [], _∷_}
-use Prim.Native.Nat.{ℕ, zero, suc, _+_, _≤_, _<_}
+use Prim.Native.Nat.{ℕ, zero, suc, _+_, _-_, _≤_, _<_}
 use native.Mathlib.Omega.{arith}
 use native.Mathlib.Decide.{ℕ-discrete}
-use borrow.Author.Tests.{ltb-true, ltb-false, not-false}
+use borrow.Author.Tests.{lt-ltb, le-ltb, ltb-true, ltb-false}
 use lib.Dec.{ltb}
 use lib.ListN.{length, getD, set, length-set}
 use Rattle.paper.specs.Sizes.{PARTS}
-use Rattle.lists.specs.Places.{place, hereOr}
+use Rattle.lists.specs.Places.{place}
+use Rattle.lists.proofs.Cases.{lt-or-le}
 use Rattle.lists.proofs.Places.{place-passes, place-set}
 use Rattle.channel.specs.declared.Record.{Record}
 use Rattle.channel.specs.Channel.{blank}
 use Rattle.table.specs.declared.Table.{Table}
-use Rattle.table.specs.Table.{holds, isFree, numberPlace, freePlace}
+use Rattle.table.specs.Table.{holds, numberPlace}
 use Rattle.table.specs.Totals.{total}
 use Rattle.table.proofs.Twice.{holds-says, holds-other, holds-none}
 use Rattle.table.proofs.Recount.{total-set}
 use Rattle.shore.specs.Numbers.{leastFrom, leastNumber}
-use Rattle.shore.specs.Shore.{allTaken}
 
--- ---- how many records are taken
+-- ---- sixteen records have no seventeen numbers
 
 -- what a record counts, by whether it is taken
 abbrev one : Bool → ℕ
@@ -40,18 +42,6 @@ within (r ∷ rs) = go (r .taken) (within rs)
     go : (t : Bool) → total weigh rs ≤ length rs → one t + total weigh rs ≤ suc (length rs)
     go true h = omega arith
     go false h = omega arith
-
--- fewer where one is free
-one-spare : (rs : List Record) → place isFree rs < length rs → total weigh rs < length rs
-unfolding total place isFree
-one-spare [] h = absurd (omega arith)
-one-spare (r ∷ rs) h = go (r .taken) (one-spare rs) h
-  where
-    go :
-        (t : Bool) → (place isFree rs < length rs → total weigh rs < length rs) → hereOr (not t) (place isFree rs) < suc (length rs)
-        → one t + total weigh rs < suc (length rs)
-    go true later h = omega (arith, later (omega arith))
-    go false later h = omega (arith, within rs)
 
 -- that many numbers in a row, each with its record
 abbrev Row : ℕ → ℕ → List Record → Type 0
@@ -75,21 +65,27 @@ packed (suc left) k rs h =
 
 -- ---- the search
 
--- where not all of them have records, what is found has none
-from-none : (left k : ℕ) (t : Table) → (((i : ℕ) → k ≤ i → i < k + left → numberPlace i t < PARTS) → ⊥) → PARTS ≤ numberPlace (leastFrom left k t) t
+-- where not all of them and the one behind them have records, what is found has none
+from-none :
+    (left k : ℕ) (t : Table) → (((i : ℕ) → k ≤ i → i < k + suc left → numberPlace i t < PARTS) → ⊥)
+    → PARTS ≤ numberPlace (leastFrom left k t) t
 unfolding leastFrom
-from-none zero k t h = absurd (h (λ i a b. absurd (omega arith)))
+from-none zero k t h =
+    ⊎-elim
+    (λ (l : numberPlace k t < PARTS). absurd (h (λ i a b. let e : i ≡ k = omega arith in rw e l)))
+    (λ (l : PARTS ≤ numberPlace k t). l)
+    (lt-or-le (numberPlace k t) PARTS)
 from-none (suc left) k t h = go (ltb (numberPlace k t) PARTS) refl (from-none left (k + 1) t)
   where
     go :
         (b : Bool) → ltb (numberPlace k t) PARTS ≡ b
-        → ((((i : ℕ) → k + 1 ≤ i → i < k + 1 + left → numberPlace i t < PARTS) → ⊥) → PARTS ≤ numberPlace (leastFrom left (k + 1) t) t)
+        → ((((i : ℕ) → k + 1 ≤ i → i < k + 1 + suc left → numberPlace i t < PARTS) → ⊥) → PARTS ≤ numberPlace (leastFrom left (k + 1) t) t)
         → PARTS ≤ numberPlace (cond b (leastFrom left (k + 1) t) k) t
     go false e later = ltb-false (numberPlace k t) PARTS e
     go true e later = later (λ all. h (λ i a b. each all i a b (ℕ-discrete i k)))
       where
         each :
-            ((i : ℕ) → k + 1 ≤ i → i < k + 1 + left → numberPlace i t < PARTS) → (i : ℕ) → k ≤ i → i < k + suc left → Dec (i ≡ k)
+            ((i : ℕ) → k + 1 ≤ i → i < k + 1 + suc left → numberPlace i t < PARTS) → (i : ℕ) → k ≤ i → i < k + suc (suc left) → Dec (i ≡ k)
             → numberPlace i t < PARTS
         each all i a b (yes q) = rw q (ltb-true (numberPlace k t) PARTS e)
         each all i a b (no d) = all i (omega arith) (omega arith)
@@ -122,17 +118,12 @@ from-range (suc left) k t = go (ltb (numberPlace k t) PARTS) (from-range left (k
 
 -- ---- the smallest number
 
--- a table that isn't full has a free record
-pub is-free : (t : Table) → allTaken t ≡ false → freePlace t < PARTS
-unfolding allTaken
-is-free t h = ltb-true (freePlace t) PARTS (not-false (ltb (freePlace t) PARTS) h)
-
--- while a record is free, no record has the smallest number
-pub least-none : (t : Table) → length (t .records) ≡ PARTS → allTaken t ≡ false → PARTS ≤ numberPlace (leastNumber t) t
-unfolding leastNumber numberPlace freePlace
-least-none t rows h =
-    let spare = one-spare (t .records) (rw rows (is-free t h)) in
-    from-none PARTS 1 t (λ all. omega (arith, packed PARTS 1 (t .records) (λ i a b. rw rows (all i a b))))
+-- no record has the smallest number
+pub least-none : (t : Table) → length (t .records) ≡ PARTS → PARTS ≤ numberPlace (leastNumber t) t
+unfolding leastNumber numberPlace
+least-none t rows =
+    from-none PARTS 1 t
+    (λ all. omega (arith, rows, within (t .records), packed (suc PARTS) 1 (t .records) (λ i a b. rw rows (all i a b))))
 
 -- and each smaller one from 1 up has one
 pub least-least : (t : Table) (i : ℕ) → 1 ≤ i → i < leastNumber t → numberPlace i t < PARTS
@@ -143,3 +134,25 @@ least-least t i a b = from-least PARTS 1 t i a b
 pub least-range : (t : Table) → (1 ≤ leastNumber t) × (leastNumber t ≤ PARTS + 1)
 unfolding leastNumber
 least-range t = let r = from-range PARTS 1 t in (r .0, omega arith)
+
+-- ---- as the code goes
+
+-- how many numbers are still to be tried
+abbrev pub left : ℕ → ℕ
+left number = PARTS + 1 - number
+
+module _ (number : ℕ) (t : Table) where
+  pub hit : number ≤ PARTS → PARTS ≤ numberPlace number t → leastFrom (left number) number t ≡ number
+  unfolding leastFrom
+  hit h e = let one : left number ≡ suc (PARTS - number) = omega arith in rw (one, le-ltb (numberPlace number t) PARTS e) refl
+
+  pub miss : number ≤ PARTS → numberPlace number t < PARTS → leastFrom (left (number + 1)) (number + 1) t ≡ leastFrom (left number) number t
+  unfolding leastFrom
+  miss h e =
+      let one : left number ≡ suc (PARTS - number) = omega arith in
+      let fewer : left (number + 1) ≡ PARTS - number = omega arith in
+      rw (one, fewer, lt-ltb (numberPlace number t) PARTS e) refl
+
+  pub behind : PARTS < number → leastFrom (left number) number t ≡ number
+  unfolding leastFrom
+  behind h = let none : left number ≡ 0 = omega arith in rw none refl
