@@ -59,7 +59,7 @@ use Rattle.face_demands.specs.Runs.{faceEnds, faceToldAll, faceToldTo, t
 use Rattle.face_demands.proofs.Traces as traces
 use Rattle.face_demands.proofs.Rows.{Every, Plain, plain-blank, plain-opened, plain-rebuilt, view-seen, save-every, save-unready, act-seen}
 use Rattle.face_demands.proofs.Messages.{ShortAct, short-block, short-create, Short, act-short}
-use Rattle.face_demands.proofs.Saving.{as-held, client-told, client-state, client-good}
+use Rattle.face_demands.proofs.Saving.{client-told, client-state, client-good}
 
 -- ---- the numbers that a call brings have 32 bits, and its blocks fit into a part
 
@@ -286,7 +286,7 @@ module _ (st : State) (g : ClientAt st) (cs : List Call) (b : AllFromC cs) where
 
 empty-at : ClientAt (stateOf emptyTable (zeros STORE))
 unfolding emptyTable some
-empty-at = record { holds = record { table = as-held emptyTable kept-empty; none-awaited = refl }; store = length-zeros STORE }
+empty-at = record { holds = record { table = kept-empty; none-awaited = refl }; store = length-zeros STORE }
 
 pub start-holds : (store : List ℕ) → length store ≡ STORE → ClientAt (startedOn store)
 start-holds store size = rw (started-is store size) empty-at

@@ -14,16 +14,10 @@ use Rattle.table.specs.Totals.{isAwaited}
 use Rattle.table.specs.Sound.{some, soundTable}
 use Rattle.shore.specs.declared.Shore.{Shore}
 use Rattle.saved.specs.Saved.{CLIENT, SHORE, saved, askedIn, tableIn, isSaved, unasked, isState, isGood}
-use Rattle.saved.proofs.Back.{Kept, saved-told, saved-asked, saved-state-client, saved-good-client, told-saved, kept-told}
+use Rattle.saved.proofs.Back.{saved-told, saved-asked, saved-state-client, saved-good-client, told-saved, kept-told}
 use Rattle.saved.proofs.Back.{saved-state-shore, saved-good-shore}
 use Rattle.shore_face.specs.Face.{shoreIn, savedShore}
-use Rattle.face_demands.specs.Tables.{CanHold, ClientCanHold, ShoreCanHold}
-
-pub as-kept : (t : Table) → CanHold t → Kept t
-as-kept t h = record { rows = h .rows; sound = h .sound; unready = h .unready; numbers = h .numbers; counts = h .counts }
-
-pub as-held : (t : Table) → Kept t → CanHold t
-as-held t k = record { rows = k .rows; sound = k .sound; unready = k .unready; numbers = k .numbers; counts = k .counts }
+use Rattle.face_demands.specs.Tables.{ClientCanHold, ShoreCanHold}
 
 -- accepted bytes tell a sound table
 pub good-sound : (mark : ℕ) (asks : Bool) (l : List ℕ) → isGood mark asks l ≡ true → soundTable (tableIn l) ≡ true
@@ -34,16 +28,16 @@ good-sound mark asks l g = both (isState mark asks l) (soundTable (tableIn l)) g
 
 module _ (t : Table) (h : ClientCanHold t) where
   pub client-told : tableIn (saved CLIENT 0 t) ≡ t
-  client-told = saved-told CLIENT 0 t (lit< tt) (lit< tt) (as-kept t (h .table))
+  client-told = saved-told CLIENT 0 t (lit< tt) (lit< tt) (h .table)
 
   pub client-asked : askedIn (saved CLIENT 0 t) ≡ 0
-  client-asked = saved-asked CLIENT 0 t (lit< tt) (lit< tt) (as-kept t (h .table))
+  client-asked = saved-asked CLIENT 0 t (lit< tt) (lit< tt) (h .table)
 
   pub client-state : isState CLIENT false (saved CLIENT 0 t) ≡ true
-  client-state = saved-state-client t (as-kept t (h .table)) (h .none-awaited)
+  client-state = saved-state-client t (h .table) (h .none-awaited)
 
   pub client-good : isGood CLIENT false (saved CLIENT 0 t) ≡ true
-  client-good = saved-good-client t (as-kept t (h .table)) (h .none-awaited)
+  client-good = saved-good-client t (h .table) (h .none-awaited)
 
 -- what a state of the client is
 pub record ClientSays (l : List ℕ) : Type 0 where
@@ -67,7 +61,7 @@ pub client-holds : (l : List ℕ) → Bytes l → isGood CLIENT false l ≡ true
 unfolding isGood
 client-holds l h g =
     record {
-      table = as-held (tableIn l) (kept-told CLIENT false l h g);
+      table = kept-told CLIENT false l h g;
       none-awaited = client-says l (both (isState CLIENT false l) (soundTable (tableIn l)) g .0) .unawaited;
     }
 
@@ -77,16 +71,16 @@ module _ (s : Shore) (h : ShoreCanHold s) where
   pub shore-told : shoreIn (savedShore s) ≡ s
   unfolding shoreIn savedShore
   shore-told =
-      let k = as-kept (s .table) (h .table) in
+      let k = h .table in
       rw (saved-told SHORE (s .asked) (s .table) (lit< tt) (h .asked) k, saved-asked SHORE (s .asked) (s .table) (lit< tt) (h .asked) k)
 
   pub shore-state : isState SHORE true (savedShore s) ≡ true
   unfolding savedShore
-  shore-state = saved-state-shore (s .asked) (s .table) (h .asked) (as-kept (s .table) (h .table))
+  shore-state = saved-state-shore (s .asked) (s .table) (h .asked) (h .table)
 
   pub shore-good : isGood SHORE true (savedShore s) ≡ true
   unfolding savedShore
-  shore-good = saved-good-shore (s .asked) (s .table) (h .asked) (as-kept (s .table) (h .table))
+  shore-good = saved-good-shore (s .asked) (s .table) (h .asked) (h .table)
 
 pub shore-says : (l : List ℕ) → isState SHORE true l ≡ true → isSaved SHORE l ≡ true
 unfolding isState
@@ -102,4 +96,4 @@ asked-small l = omega arith
 
 pub shore-holds : (l : List ℕ) → Bytes l → isGood SHORE true l ≡ true → ShoreCanHold (shoreIn l)
 unfolding shoreIn
-shore-holds l h g = record { table = as-held (tableIn l) (kept-told SHORE true l h g); asked = asked-small l }
+shore-holds l h g = record { table = kept-told SHORE true l h g; asked = asked-small l }

@@ -73,7 +73,7 @@ use Rattle.face_demands.proofs.Traces as traces
 use Rattle.face_demands.proofs.Rows.{Seen, Every, Small, small-blank, small-opened, small-rebuilt, free-every, view-seen, save-every}
 use Rattle.face_demands.proofs.Rows.{save-unready, act-seen}
 use Rattle.face_demands.proofs.Messages.{ShortAct, short-block, Short, act-short}
-use Rattle.face_demands.proofs.Saving.{as-held, shore-told, shore-state, shore-good}
+use Rattle.face_demands.proofs.Saving.{shore-told, shore-state, shore-good}
 use Rattle.face_demands.proofs.Packing.{requested-placeless, opened-placeless, requested-fits, opened-fits}
 
 -- ---- the numbers that a call brings have 32 bits, and its blocks fit into a part
@@ -459,7 +459,7 @@ module _ (st : Standing) (g : ShoreAt st) (cs : List Call) (b : AllFromC cs) whe
 -- ---- from Start
 
 empty-at : ShoreAt (standing (record { table = emptyTable; asked = 0 }) (zeros STORE))
-empty-at = record { holds = record { table = as-held emptyTable kept-empty; asked = lit< tt }; store = length-zeros STORE }
+empty-at = record { holds = record { table = kept-empty; asked = lit< tt }; store = length-zeros STORE }
 
 pub start-holds : (store : List ℕ) → length store ≡ STORE → ShoreAt (startedOn store)
 start-holds store size = rw (started-is store size) empty-at

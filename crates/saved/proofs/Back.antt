@@ -27,6 +27,7 @@ use Rattle.table.proofs.Soundness.{sound-says, joining-bounds, sound-empty, tot
 use Rattle.saved.specs.Saved.{STATE, HEAD, CHANNELS, AWAITED, ROW, CLIENT, SHORE, bit, stageCode, restOf, levelIf, headOf}
 use Rattle.saved.specs.Saved.{recordBytes, rowBytes, headBytes, saved, wordAt, stageOf, recordOf, recordIn, recordsIn}
 use Rattle.saved.specs.Saved.{levelIn, readyIn, askedIn, tableIn, goodRow, goodRows, goodHead, isSaved, unasked, isState, isGood}
+use Rattle.saved.specs.Kept.{Kept}
 use Rattle.saved.proofs.Words.{bit-small, row-at}
 use Rattle.saved.proofs.Searching.{length-told}
 
@@ -180,15 +181,6 @@ rows-back (r ∷ rs) q f =
     (rw (a, record-told r (f 0) (rowBytes rs ++ q), d, more .0), rw (a, row-good r (f 0) (rowBytes rs ++ q), d, more .1))
 
 -- ---- the table
-
--- a table that a host can keep
-pub record Kept (t : Table) : Type 0 where
-  pub rows : length (t .records) ≡ PARTS
-  pub sound : soundTable t ≡ true
-  -- Start leaves no level, and only Capabilities sets one
-  pub unready : t .ready ≡ false → t .level ≡ 0
-  pub numbers : (i : ℕ) → recordAt t i .number < 4294967296
-  pub counts : (i : ℕ) → recordAt t i .count < 4294967296
 
 -- the word of the end, of its parts
 module _ (v asked mark : ℕ) (low : v < 256) (mid : asked < 65536) (high : mark < 256) where
