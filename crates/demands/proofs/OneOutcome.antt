@@ -11,7 +11,7 @@ pub use Rattle.writing.proofs.One.{write-create-request-one as writing-write-cr
 pub use Rattle.cutting.proofs.One.{cut-one as cutting-cut-one, dvc-cut-one as cutting-dvc-cut-one}
 pub use Rattle.listeners.proofs.One.{good-one as listeners-good-one, listed-one as listeners-listed-one}
 pub use Rattle.channel.proofs.One.{take-one as channel-take-one, answers-one as channel-answers-one, garbles-one as channel-garbles-one, act-one as channel-act-one, concerns-one as channel-concerns-one, value-one as channel-value-one, class-at-one as channel-class-at-one}
-pub use Rattle.table.proofs.One.{blank-one as table-blank-one, empty-one as table-empty-one, find-number-one as table-find-number-one, find-free-one as table-find-free-one, find-open-one as table-find-open-one, find-one as table-find-one, put-one as table-put-one, sound-one as table-sound-one}
+pub use Rattle.table.proofs.One.{blank-one as table-blank-one, empty-one as table-empty-one, find-number-one as table-find-number-one, find-free-one as table-find-free-one, find-open-one as table-find-open-one, find-one as table-find-one, totals-after-one as table-totals-after-one, put-one as table-put-one, sound-one as table-sound-one}
 pub use Rattle.store.proofs.One.{put-block-one as store-put-block-one, clear-part-one as store-clear-part-one}
 pub use Rattle.deciding.proofs.One.{decide-one as deciding-decide-one}
 pub use Rattle.connection.proofs.One.{keep-one as connection-keep-one, place-after-one as connection-place-after-one}

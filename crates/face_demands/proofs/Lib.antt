@@ -9,3 +9,4 @@ pub mod Shore
 pub mod Spoiled
 pub mod Refused
 pub mod ShoreRefused
+pub mod OneOutcome

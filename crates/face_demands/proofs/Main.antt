@@ -132,3 +132,5 @@ a-refusal-leaves-the-state-ashore =
       fewer = λ state k h g. spoiled.fewer state k h (saving.good-sound SHORE true state g);
       not-joining = λ state k h g. spoiled.not-joining SHORE state h (saving.shore-says state g) k;
     }
+
+-- One outcome for each input, of every public function: proofs/OneOutcome
