@@ -1,92 +1,51 @@
 -- A run is the same however its input is cut into reads, and what is said at its end is the program's line.
 -- Assumes nothing.
 use mathlib.Core.Path.{_≡_, refl, sym, ap, _∙_}
-use mathlib.Core.List.{List, [], _∷_, _++_, append-assoc, append-nil}
+use mathlib.Core.List.{List, [], _∷_, _++_, map, append-assoc, append-nil}
 use mathlib.Core.Logic.{⊎-elim}
-use Prim.Native.Nat.{ℕ, zero, suc, _+_, _-_, _≤_, _<_}
+use Prim.Native.Nat.{ℕ, _-_, _≤_, _<_}
 use native.Mathlib.Omega.{arith}
 use borrow.Author.Tests.{le-ltb}
 use lib.Dec.{ltb}
 use lib.ListN.{length, take, drop, length-drop, length-append, drop-of-length-le}
-use lib.Seq.{drop-drop, drop-append-le, take-append-le, take-all, take-at, drop-at}
+use lib.Seq.{drop-append-le, take-append-le, take-all, take-at, drop-at}
 use Rattle.lists.proofs.Cases.{choice, lt-or-le}
 use Rattle.numbers.specs.Numbers.{valueAt}
 use Rattle.records.specs.Records.{wholeOf, pduIn}
-use Rattle.records.specs.Walks.{frontOf, recordsOf, sizeOf, restOf}
-use Rattle.records.proofs.Framings.{front-more}
+use Rattle.records.specs.Walks.{recordsOf, restOf}
 use Rattle.records.proofs.Records.{whole-framing}
+use Rattle.records.proofs.Rests.{rest-none, rest-has-none, records-more, rest-more}
 use Rattle.judge.specs.declared.Course.{Course}
-use Rattle.judge.specs.declared.Stand.{Stand}
 use Rattle.judge.specs.Judge.{beginning, courseAfter, courseOver}
 use Rattle.judge.specs.Sender.{NUMBER, HEAD, headNeeds, numberIn, messageIn, pdusIn}
 use Rattle.judge.specs.Sender.{turned, senderSays, inPieces, allOf, saidAtEnd}
-use Rattle.judge.proofs.Walks.{first-judged, none-judged, first-size, none-size}
+use Rattle.judge.proofs.Walks.{none-judged}
 
--- ---- what is left behind the whole records
-
-rest-first : (input : List ℕ) → 0 < wholeOf input → restOf wholeOf input ≡ restOf wholeOf (drop (wholeOf input) input)
-unfolding restOf
-rest-first input some = rw (first-size input some) (sym (drop-drop (sizeOf (recordsOf wholeOf (drop (wholeOf input) input))) (wholeOf input) input))
-
-rest-none : (input : List ℕ) → wholeOf input ≡ 0 → restOf wholeOf input ≡ input
-unfolding restOf
-rest-none input none = rw (none-size input none) refl
-
-rest-has-none : (k : ℕ) (input : List ℕ) → length input ≤ k → wholeOf (restOf wholeOf input) ≡ 0
-rest-has-none zero input h =
-    let none : wholeOf input ≡ 0 = omega (arith, whole-framing .fits input) in
-    rw (rest-none input none) none
-rest-has-none (suc k) input h =
-    ⊎-elim
-    (λ (some : 0 < wholeOf input).
-    rw (rest-first input some) (rest-has-none k (drop (wholeOf input) input) (rw length-drop (omega arith))))
-    (λ (no : wholeOf input ≤ 0).
-    let none : wholeOf input ≡ 0 = omega arith in
-    rw (rest-none input none) none)
-    (lt-or-le 0 (wholeOf input))
+-- ---- a run
 
 module _ (n : ℕ) (message : List ℕ) where
-  -- the course with the record in front judged
-  abbrev judgedFirst : Course → List ℕ → Course
-  judgedFirst course input = courseAfter n message course (pduIn (frontOf wholeOf input))
-
-  turn-first : (course : Course) (input : List ℕ) → 0 < wholeOf input
-      → turned n message course input ≡ turned n message (judgedFirst course input) (drop (wholeOf input) input)
-  unfolding turned
-  turn-first course input some = rw (first-judged n message course input some, rest-first input some) refl
+  -- records behind records
+  over-both : (course : Course) (xs ys : List (List ℕ))
+      → courseOver n message course (map pduIn (xs ++ ys)) ≡ courseOver n message (courseOver n message course (map pduIn xs)) (map pduIn ys)
+  unfolding courseOver
+  over-both course [] ys = refl
+  over-both course (x ∷ xs) ys = over-both (courseAfter n message course (pduIn x)) xs ys
 
   turn-none : (course : Course) (input : List ℕ) → wholeOf input ≡ 0
       → turned n message course input ≡ record { course = course; had = length input }
   unfolding turned
-  turn-none course input none = rw (none-judged n message course input none, rest-none input none) refl
-
-  turned-course : (course : Course) (input : List ℕ) → turned n message course input .course ≡ courseOver n message course (pdusIn input)
-  unfolding turned
-  turned-course course input = refl
+  turn-none course input none = rw (none-judged n message course input none, rest-none wholeOf input none) refl
 
   -- what a turn left, with more behind, is turned over as all of it is
-  more-in : (k : ℕ) (course : Course) (input more : List ℕ) → length input ≤ k
-      → turned n message course (input ++ more)
-      ≡ turned n message (courseOver n message course (pdusIn input)) (restOf wholeOf input ++ more)
-  more-in zero course input more h =
-      let none : wholeOf input ≡ 0 = omega (arith, whole-framing .fits input) in
-      rw (none-judged n message course input none, rest-none input none) refl
-  more-in (suc k) course input more h =
-      ⊎-elim
-      (λ (some : 0 < wholeOf input).
-      let same = whole-framing .more input more some in
-      turn-first course (input ++ more) (rw same some)
-      ∙ rw (
-        front-more whole-framing input more some,
-        same,
-        drop-append-le (wholeOf input) input more (whole-framing .fits input),
-        first-judged n message course input some,
-        rest-first input some,
-      ) (more-in k (judgedFirst course input) (drop (wholeOf input) input) more (rw length-drop (omega arith))))
-      (λ (no : wholeOf input ≤ 0).
-      let none : wholeOf input ≡ 0 = omega arith in
-      rw (none-judged n message course input none, rest-none input none) refl)
-      (lt-or-le 0 (wholeOf input))
+  more-behind : (course : Course) (input more : List ℕ)
+      → turned n message course (input ++ more) ≡ turned n message (turned n message course input .course) (restOf wholeOf input ++ more)
+  unfolding turned pdusIn
+  more-behind course input more =
+      rw (
+        records-more whole-framing more input,
+        rest-more whole-framing more input,
+        over-both course (recordsOf wholeOf input) (recordsOf wholeOf (restOf wholeOf input ++ more)),
+      ) refl
 
   -- however the input is cut into reads, the run stands where one turn over all of it would
   pub however-cut : (course : Course) (left : List ℕ) (pieces : List (List ℕ)) → wholeOf left ≡ 0
@@ -95,10 +54,8 @@ module _ (n : ℕ) (message : List ℕ) where
   however-cut course left [] none = rw (append-nil left) (sym (turn-none course left none))
   however-cut course left (piece ∷ pieces) none =
       let input = left ++ piece in
-      let next = courseOver n message course (pdusIn input) in
-      let on = however-cut next (restOf wholeOf input) pieces (rest-has-none (length input) input (omega arith)) in
-      rw (turned-course course input) on ∙ sym (more-in (length input) course input (allOf pieces) (omega arith))
-      ∙ ap (turned n message course) (append-assoc left piece (allOf pieces))
+      however-cut (turned n message course input .course) (restOf wholeOf input) pieces (rest-has-none whole-framing input)
+      ∙ sym (more-behind course input (allOf pieces)) ∙ ap (turned n message course) (append-assoc left piece (allOf pieces))
 
 -- at first no record is there
 pub none-at-first : wholeOf [] ≡ 0

@@ -8,8 +8,9 @@ use lib.ListN.{length, take, drop}
 use lib.Seq.{take-nil, drop-drop}
 use Rattle.records.specs.Records.{LENGTH, wholeOf, pduIn}
 use Rattle.records.specs.Walks.{frontOf, recordsOf, sizeOf}
-use Rattle.records.proofs.Framings.{length-front, records-first, records-none}
+use Rattle.records.proofs.Framings.{records-first, records-none}
 use Rattle.records.proofs.Records.{whole-framing}
+use Rattle.records.proofs.Rests.{size-none}
 use Rattle.judge.specs.declared.Course.{Course}
 use Rattle.judge.specs.Judge.{courseAfter, courseOver}
 use Rattle.judge.specs.Sender.{pdusIn}
@@ -24,15 +25,6 @@ module _ (n : ℕ) (message : List ℕ) (course : Course) (input : List ℕ) whe
   pub none-judged : wholeOf input ≡ 0 → courseOver n message course (pdusIn input) ≡ course
   unfolding pdusIn courseOver
   none-judged none = rw (records-none wholeOf input none)
-
-pub first-size : (input : List ℕ) → 0 < wholeOf input
-    → sizeOf (recordsOf wholeOf input) ≡ wholeOf input + sizeOf (recordsOf wholeOf (drop (wholeOf input) input))
-unfolding sizeOf
-first-size input some = rw (records-first whole-framing input some, length-front whole-framing input)
-
-pub none-size : (input : List ℕ) → wholeOf input ≡ 0 → sizeOf (recordsOf wholeOf input) ≡ 0
-unfolding sizeOf
-none-size input none = rw (records-none wholeOf input none)
 
 -- ---- the PDU as a record's bytes lend it
 
@@ -65,5 +57,5 @@ pub ends : (n : ℕ) (message : List ℕ) (course : Course) (input : List ℕ) (
     × ((at ≡ sizeOf (recordsOf wholeOf input)) × (at ≤ length input))
 ends n message course input next at left none = (
   sym (left .1 .0 ∙ none-judged n message next (drop at input) none),
-  (omega (arith, left .1 .1, none-size (drop at input) none), left .0),
+  (omega (arith, left .1 .1, size-none wholeOf (drop at input) none), left .0),
 )

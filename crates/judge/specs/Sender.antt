@@ -46,6 +46,10 @@ pdusIn input = map pduIn (recordsOf wholeOf input)
 
 -- ---- the line
 
+-- the most bytes of a reason's word
+abbrev pub REASON-MAX : ℕ
+REASON-MAX = 8
+
 unfoldable pub reasonField : Reason → List ℕ
 reasonField Reading = 114 ∷ 101 ∷ 97 ∷ 100 ∷ 105 ∷ 110 ∷ 103 ∷ 10 ∷ []
 reasonField Kind = 107 ∷ 105 ∷ 110 ∷ 100 ∷ 10 ∷ []

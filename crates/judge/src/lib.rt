@@ -21,7 +21,7 @@ ghost use Rattle.lines.specs.Lines.{LINE-MAX};
 ghost use Rattle.records.specs.Records.{wholeOf};
 ghost use Rattle.records.specs.Walks.{recordsOf, sizeOf, restOf};
 ghost use Rattle.judge.specs.Judge.{agrees, courseBy, brought, courseAfter, courseOver, judgementOn};
-ghost use Rattle.judge.specs.Sender.{HEAD, HEAD-MAX, headNeeds, isWhole, pdusIn, reasonField, judgementLine, lineAt, turned, atFirst};
+ghost use Rattle.judge.specs.Sender.{HEAD, HEAD-MAX, headNeeds, isWhole, pdusIn, REASON-MAX, reasonField, judgementLine, lineAt, turned, atFirst};
 
 // The bytes of the channel's number, and of number and message length.
 pub const NUMBER: usize = 4;
@@ -344,7 +344,7 @@ pub fn head_needs(head: &[u8]) -> usize
 
 // The word of a reason, which ends the line, from a place on.
 fn word(out: &mut [u8], at: usize, why: Reason) -> usize
-    ensures { λ r. ⌜ (r ≡ length (reasonField why)) × (r ≤ 9) ⌝ }
+    ensures { λ r. ⌜ (r ≡ length (reasonField why)) × (r ≤ REASON-MAX) ⌝ }
     ensures { λ _. ⌜ now (out .exit) ≡ laid (now (out .entry)) at (reasonField why) ⌝ }
 {
     match why {

@@ -4,3 +4,4 @@ pub mod Steps
 pub mod Judged
 pub mod Verdicts
 pub mod Ours
+pub mod OneOutcome

@@ -56,3 +56,5 @@ ours-gets-yes =
 pub whatever-the-pieces : WhateverThePieces
 whatever-the-pieces =
     record { stands = λ n m reads. pieces.however-cut n m beginning [] reads pieces.none-at-first; says = pieces.says-for-all }
+
+-- One outcome for each input, of every public function: proofs/OneOutcome

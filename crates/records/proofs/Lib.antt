@@ -1,4 +1,5 @@
 pub mod Framings
+pub mod Rests
 pub mod Records
 pub mod Desk
 pub mod Pieces

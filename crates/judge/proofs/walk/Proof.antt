@@ -6,9 +6,10 @@ use lib.ListN.{length, drop, length-drop}
 use lib.Seq.{drop-drop}
 use Rattle.lists.proofs.Laid.{to-end}
 use Rattle.records.specs.Records.{LENGTH, wholeOf}
-use Rattle.records.proofs.Records.{whole-fits}
+use Rattle.records.proofs.Records.{whole-fits, whole-framing}
+use Rattle.records.proofs.Rests.{size-first}
 use Rattle.judge.specs.Judge.{courseAfter}
-use Rattle.judge.proofs.Walks.{Left, first-judged, first-size, pdu-lent, ends}
+use Rattle.judge.proofs.Walks.{Left, first-judged, pdu-lent, ends}
 use borrow.Author.Needs.{needs}
 use native.Mathlib.Omega.{arith}
 use Rattle.judge.proofs.walk.Statement.{statement}
@@ -90,7 +91,7 @@ loop-again c =
       omega (arith, front),
       (
         l .inv .1 .0 ∙ first-judged (a .number) m (l .next) (drop (l .at) input) some ∙ rw (on, front .0, judged) refl,
-        l .inv .1 .1 ∙ rw (first-size (drop (l .at) input) some, on, front .0) (omega arith),
+        l .inv .1 .1 ∙ rw (size-first whole-framing (drop (l .at) input) some, on, front .0) (omega arith),
       ),
     )
 
