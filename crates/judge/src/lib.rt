@@ -171,6 +171,8 @@ fn brings(
 fn goes(number: u32, message: &[u8], place: u64, stage: Stage, same: bool, pdu: &[u8]) -> Course
     ensures { λ r. ⌜ r ≡ courseAfter number (now (message .entry)) (Course.Going place stage same) (now (pdu .entry)) ⌝ }
 {
+    // The reason of all that is read and isn't data.
+    let why = Reason::Kind;
     match reading::read(pdu, true) {
         Pdu::Refused(_) => Course::Faulty {
             place,
@@ -216,32 +218,17 @@ fn goes(number: u32, message: &[u8], place: u64, stage: Stage, same: bool, pdu: 
             number: _,
             class: _,
             name: _,
-        } => Course::Faulty {
-            place,
-            why: Reason::Kind,
-        },
-        Pdu::Close { number: _ } => Course::Faulty {
-            place,
-            why: Reason::Kind,
-        },
+        } => Course::Faulty { place, why },
+        Pdu::Close { number: _ } => Course::Faulty { place, why },
         Pdu::CapsRequest {
             version: _,
             charges: _,
-        } => Course::Faulty {
-            place,
-            why: Reason::Kind,
-        },
+        } => Course::Faulty { place, why },
         Pdu::CreateResponse {
             number: _,
             status: _,
-        } => Course::Faulty {
-            place,
-            why: Reason::Kind,
-        },
-        Pdu::CapsResponse { version: _ } => Course::Faulty {
-            place,
-            why: Reason::Kind,
-        },
+        } => Course::Faulty { place, why },
+        Pdu::CapsResponse { version: _ } => Course::Faulty { place, why },
     }
 }
 
