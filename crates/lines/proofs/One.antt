@@ -8,6 +8,7 @@ use Rattle.lines.proofs.field.Reads as field
 use Rattle.lines.proofs.text.Reads as text
 use Rattle.lines.proofs.channel.Reads as channel
 use Rattle.lines.proofs.header.Reads as header
+use Rattle.lines.proofs.answer.Reads as answer
 use Rattle.lines.proofs.line.Reads as line
 use Rattle.lines.proofs.cut_line.Reads as cut-line
 use Rattle.lines.proofs.message_line.Reads as message-line
@@ -31,6 +32,10 @@ channel-one κs a r r′ s s′ p q = (same (p .0 .0) (q .0 .0), same (p .1) (q 
 pub header-one : (κs : _) (a : _) (r r′ : _) (s s′ : _) → header.Post κs a r s → header.Post κs a r′ s′
     → (r ≡ r′) × (now (s .0) ≡ now (s′ .0))
 header-one κs a r r′ s s′ p q = (same (p .0 .0) (q .0 .0), same (p .1) (q .1))
+
+pub answer-one : (κs : _) (a : _) (r r′ : _) (s s′ : _) → answer.Post κs a r s → answer.Post κs a r′ s′
+    → (r ≡ r′) × (now (s .0) ≡ now (s′ .0))
+answer-one κs a r r′ s s′ p q = (same (p .0 .0) (q .0 .0), same (p .1) (q .1))
 
 pub line-one : (κs : _) (a : _) (r r′ : _) (s s′ : _) → line.Post κs a r s → line.Post κs a r′ s′
     → (r ≡ r′) × (now (s .0) ≡ now (s′ .0))

@@ -28,6 +28,10 @@ WORD-MAX = 9
 abbrev pub LINE-MAX : ℕ
 LINE-MAX = 4 * FIELD-MAX + WORD-MAX
 
+-- the most bytes of an answer's fields: three numbers and a word
+abbrev pub ANSWER-MAX : ℕ
+ANSWER-MAX = 3 * FIELD-MAX + WORD-MAX
+
 -- "pdu answer channel number reply"
 unfoldable pub headerLine : List ℕ
 headerLine =
@@ -50,10 +54,13 @@ unfoldable pub channelField : Concern → List ℕ
 channelField NoChannel = 45 ∷ SPACE ∷ []
 channelField (Channel n) = field n SPACE
 
+-- the fields of an answer, and a byte that ends them: "answer [..]; channel [..]; number [..]; reply length"
+unfoldable pub answerFields : Answer → ℕ → ℕ → List ℕ
+answerFields answer sent end =
+    ((wordField (wordOf answer) ++ channelField (concernOf answer)) ++ field (numberOf answer) SPACE) ++ field sent end
+
 unfoldable pub lineOf : ℕ → Answer → ℕ → List ℕ
-lineOf place answer sent =
-    (((field place SPACE ++ wordField (wordOf answer)) ++ channelField (concernOf answer))
-    ++ field (numberOf answer) SPACE) ++ field sent LF
+lineOf place answer sent = field place SPACE ++ answerFields answer sent LF
 
 -- "A last record cut short prints its place and `cut`, and ends the run."
 unfoldable pub cutLineOf : ℕ → List ℕ

@@ -1,7 +1,7 @@
 // The text of the programs' lines.
 //
-// `header` lays the walker's first line, `line` the line of one PDU from its place, its answer and its reply's length,
-// `cut_line` the line of a last record that is cut short; `message_line` lays the line of a message handed up;
+// `header` lays the walker's first line, `line` the line of one PDU from its place, its answer and its reply's length, `answer`
+// the same without its place, `cut_line` the line of a last record that is cut short; `message_line` lays the line of a message handed up;
 // `reading_header` and `reading_line` lay the lines of PDUs that are only read, `totals_header` and `totals_line` those of
 // the connection's totals. Each lays its bytes at the front of a
 // buffer and answers how many there are; `field`, `channel` and `text`, of which lines are made, lay theirs from a place on. Bytes
@@ -14,21 +14,25 @@ ghost use Prim.Native.Nat.{_+_, _*_, _≤_, _<_};
 ghost use lib.ListN.{length, drop};
 ghost use Rattle.paper.specs.Sizes.{MESSAGE-MAX};
 ghost use Rattle.lists.specs.Bytes.{laid};
-ghost use Rattle.channel.specs.Answers.{concernOf, numberOf, wordOf};
+ghost use Rattle.channel.specs.Answers.{wordOf};
 ghost use Rattle.lines.specs.Decimal.{FIELD-MAX, field};
 ghost use Rattle.lines.specs.Hex.{hexDigit, hexByte, hexOf, bytesField};
-ghost use Rattle.lines.specs.Lines.{WORD-MAX, LINE-MAX, headerLine, wordField, channelField, lineOf, cutLineOf};
+ghost use Rattle.lines.specs.Lines.{WORD-MAX, ANSWER-MAX, LINE-MAX, headerLine, wordField, channelField};
+ghost use Rattle.lines.specs.Lines.{answerFields, lineOf, cutLineOf};
 ghost use Rattle.lines.specs.Lines.{messageLineOf, MESSAGE-LINE-MAX, readingHeader, verdictField, readingLineOf};
 ghost use Rattle.lines.specs.Lines.{totalsHeader, totalsLineOf};
 
 // A number's field has at most twenty digits and the byte that ends it.
-const FIELD_MAX: usize = 21;
+pub const FIELD_MAX: usize = 21;
 
 // A word's field has at most eight letters and a space.
 const WORD_MAX: usize = 9;
 
+// The most bytes of an answer's fields: three numbers and a word.
+pub const ANSWER_MAX: usize = 3 * FIELD_MAX + WORD_MAX;
+
 // The most bytes that a line has: four numbers and a word.
-pub const LINE_MAX: usize = 4 * FIELD_MAX + WORD_MAX;
+pub const LINE_MAX: usize = FIELD_MAX + ANSWER_MAX;
 
 // The most bytes that a message's line has: two numbers, two digits a byte, and its end.
 pub const MESSAGE_LINE_MAX: usize = 2 * FIELD_MAX + 2 * MESSAGE_MAX + 1;
@@ -114,16 +118,33 @@ pub fn header(out: &mut [u8]) -> usize
     text(out, 0, b"pdu answer channel number reply\n")
 }
 
-// The line of a PDU: its place, the answer's word, channel and number, and the reply's length.
+// The fields of an answer, from a place on: its word, channel and number, and the reply's length with the byte that ends them.
+fn fields(out: &mut [u8], at: usize, answer: Answer, sent: usize, end: u8) -> usize
+    requires { ⌜ at ≤ FIELD-MAX ⌝ }
+    ensures { λ r. ⌜ (r ≡ length (answerFields answer sent end)) × (r ≤ ANSWER-MAX) ⌝ }
+    ensures { λ _. ⌜ now (out .exit) ≡ laid (now (out .entry)) at (answerFields answer sent end) ⌝ }
+{
+    let worded = word(out, at, answer);
+    let concerned = worded + channel(out, at + worded, channel::concerns(answer));
+    let valued = concerned + field(out, at + concerned, channel::value(answer), b' ');
+    valued + field(out, at + valued, sent as u64, end)
+}
+
+// The fields of an answer, with the byte that ends them.
+pub fn answer(out: &mut [u8], answer: Answer, sent: usize, end: u8) -> usize
+    ensures { λ r. ⌜ (r ≡ length (answerFields answer sent end)) × (r ≤ ANSWER-MAX) ⌝ }
+    ensures { λ _. ⌜ now (out .exit) ≡ laid (now (out .entry)) 0 (answerFields answer sent end) ⌝ }
+{
+    fields(out, 0, answer, sent, end)
+}
+
+// The line of a PDU: its place, and the fields of its answer.
 pub fn line(out: &mut [u8], place: u64, answer: Answer, sent: usize) -> usize
     ensures { λ r. ⌜ (r ≡ length (lineOf place answer sent)) × (r ≤ LINE-MAX) ⌝ }
     ensures { λ _. ⌜ now (out .exit) ≡ laid (now (out .entry)) 0 (lineOf place answer sent) ⌝ }
 {
     let placed = field(out, 0, place, b' ');
-    let worded = placed + word(out, placed, answer);
-    let concerned = worded + channel(out, worded, channel::concerns(answer));
-    let valued = concerned + field(out, concerned, channel::value(answer), b' ');
-    valued + field(out, valued, sent as u64, b'\n')
+    placed + fields(out, placed, answer, sent, b'\n')
 }
 
 // The line of a last record that is cut short: its place and `cut`.
