@@ -1,4 +1,3 @@
 pub mod Blocks
-pub mod Walks
 pub mod Pieces
 pub mod One

@@ -1,7 +1,7 @@
 -- A run is the same however its input is cut into reads, and what is said at its end is the program's line.
 -- Assumes nothing.
-use mathlib.Core.Path.{_≡_, refl, sym, ap, _∙_}
-use mathlib.Core.List.{List, [], _∷_, _++_, map, append-assoc, append-nil}
+use mathlib.Core.Path.{_≡_, refl, ap}
+use mathlib.Core.List.{List, [], _++_, append-nil}
 use mathlib.Core.Logic.{⊎-elim}
 use Prim.Native.Nat.{ℕ, _-_, _≤_, _<_}
 use native.Mathlib.Omega.{arith}
@@ -11,55 +11,18 @@ use lib.ListN.{length, take, drop, length-drop, length-append, drop-of-length-le
 use lib.Seq.{drop-append-le, take-append-le, take-all, take-at, drop-at}
 use Rattle.lists.proofs.Cases.{choice, lt-or-le}
 use Rattle.numbers.specs.Numbers.{valueAt}
-use Rattle.records.specs.Records.{wholeOf, pduIn}
-use Rattle.records.specs.Walks.{recordsOf, restOf}
-use Rattle.records.proofs.Records.{whole-framing}
-use Rattle.records.proofs.Rests.{rest-none, rest-has-none, records-more, rest-more}
-use Rattle.judge.specs.declared.Course.{Course}
-use Rattle.judge.specs.Judge.{beginning, courseAfter, courseOver}
-use Rattle.judge.specs.Sender.{NUMBER, HEAD, headNeeds, numberIn, messageIn, pdusIn}
-use Rattle.judge.specs.Sender.{turned, senderSays, inPieces, allOf, saidAtEnd}
-use Rattle.judge.proofs.Walks.{none-judged}
+use Rattle.records.specs.Pdus.{allOf}
+use Rattle.records.proofs.Pdus.{none-at-first, however-cut}
+use Rattle.judge.specs.Judge.{beginning, courseAfter}
+use Rattle.judge.specs.Sender.{NUMBER, HEAD, headNeeds, numberIn, messageIn}
+use Rattle.judge.specs.Sender.{standOf, turned, senderSays, inPieces, saidAtEnd}
 
 -- ---- a run
 
-module _ (n : ℕ) (message : List ℕ) where
-  -- records behind records
-  over-both : (course : Course) (xs ys : List (List ℕ))
-      → courseOver n message course (map pduIn (xs ++ ys)) ≡ courseOver n message (courseOver n message course (map pduIn xs)) (map pduIn ys)
-  unfolding courseOver
-  over-both course [] ys = refl
-  over-both course (x ∷ xs) ys = over-both (courseAfter n message course (pduIn x)) xs ys
-
-  turn-none : (course : Course) (input : List ℕ) → wholeOf input ≡ 0
-      → turned n message course input ≡ record { course = course; had = length input }
-  unfolding turned
-  turn-none course input none = rw (none-judged n message course input none, rest-none wholeOf input none) refl
-
-  -- what a turn left, with more behind, is turned over as all of it is
-  more-behind : (course : Course) (input more : List ℕ)
-      → turned n message course (input ++ more) ≡ turned n message (turned n message course input .course) (restOf wholeOf input ++ more)
-  unfolding turned pdusIn
-  more-behind course input more =
-      rw (
-        records-more whole-framing more input,
-        rest-more whole-framing more input,
-        over-both course (recordsOf wholeOf input) (recordsOf wholeOf (restOf wholeOf input ++ more)),
-      ) refl
-
-  -- however the input is cut into reads, the run stands where one turn over all of it would
-  pub however-cut : (course : Course) (left : List ℕ) (pieces : List (List ℕ)) → wholeOf left ≡ 0
-      → inPieces n message course left pieces ≡ turned n message course (left ++ allOf pieces)
-  unfolding inPieces allOf
-  however-cut course left [] none = rw (append-nil left) (sym (turn-none course left none))
-  however-cut course left (piece ∷ pieces) none =
-      let input = left ++ piece in
-      however-cut (turned n message course input .course) (restOf wholeOf input) pieces (rest-has-none whole-framing input)
-      ∙ sym (more-behind course input (allOf pieces)) ∙ ap (turned n message course) (append-assoc left piece (allOf pieces))
-
--- at first no record is there
-pub none-at-first : wholeOf [] ≡ 0
-none-at-first = omega (arith, whole-framing .fits [])
+-- however the input is cut into reads, the run stands where one turn over all of it would
+pub stands : (n : ℕ) (message : List ℕ) (pieces : List (List ℕ)) → inPieces n message pieces ≡ turned n message beginning (allOf pieces)
+unfolding inPieces turned
+stands n message pieces = ap standOf (however-cut (courseAfter n message) beginning [] pieces none-at-first)
 
 -- ---- the program's line
 
@@ -98,4 +61,4 @@ pub says-for-all : (head : List ℕ) (pieces : List (List ℕ)) → length head 
 unfolding saidAtEnd senderSays
 says-for-all head pieces within short =
     let is = head-is head (allOf pieces) within short in
-    rw (is .0, is .1, however-cut (numberIn head) (messageIn head) beginning [] pieces none-at-first) refl
+    rw (is .0, is .1, stands (numberIn head) (messageIn head) pieces) refl

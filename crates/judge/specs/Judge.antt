@@ -4,7 +4,7 @@
 -- proved (judge_demands).
 use Prim.Native.Nat.{ℕ, _+_, _%_}
 use mathlib.Core.Bool.{Bool, true, cond, _&&_}
-use mathlib.Core.List.{List, [], _∷_}
+use mathlib.Core.List.{List}
 use lib.Dec.{eqb}
 use lib.ListN.{length, take, drop}
 use Rattle.reading.specs.Reading.{readPdu}
@@ -21,6 +21,7 @@ use Rattle.channel.specs.declared.Took.{Took}
 use Rattle.channel.specs.declared.Took.the-variants.{Bars, Spoils, Holds, Finishes}
 use Rattle.channel.specs.Stages.{took}
 use Rattle.records.specs.Records.{PLACES}
+use Rattle.records.specs.Pdus.{afterPdus}
 use Rattle.judge.specs.declared.Reason.the-variants.{Reading, Kind, OtherChannel, Steps, Before}
 use Rattle.judge.specs.declared.Course.{Course}
 use Rattle.judge.specs.declared.Course.the-variants.{Going, Handed, Faulty}
@@ -72,9 +73,8 @@ courseAfter n message (Faulty place why) pdu = Faulty place why
 unfoldable pub beginning : Course
 beginning = Going 0 Idle true
 
-unfoldable pub courseOver : ℕ → List ℕ → Course → List (List ℕ) → Course
-courseOver n message course [] = course
-courseOver n message course (pdu ∷ pdus) = courseOver n message (courseAfter n message course pdu) pdus
+abbrev pub courseOver : ℕ → List ℕ → Course → List (List ℕ) → Course
+courseOver n message course pdus = afterPdus (courseAfter n message) course pdus
 
 -- "A no names the first PDU [..]; with none, that the list ended early, or else that the bytes differ."
 unfoldable pub judgementOn : Course → Judgement

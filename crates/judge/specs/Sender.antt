@@ -1,21 +1,20 @@
 -- The program `sender`: its input, its one line, and a run over the input in pieces.
 use Prim.Native.Nat.{ℕ, _+_, _-_}
 use mathlib.Core.Bool.{Bool, cond, _&&_, not}
-use mathlib.Core.List.{List, [], _∷_, _++_, map}
+use mathlib.Core.List.{List, [], _∷_, _++_}
 use lib.Dec.{ltb, eqb}
 use lib.ListN.{length, take, drop}
 use Rattle.numbers.specs.Numbers.{valueOf, valueAt}
 use Rattle.lines.specs.Decimal.{field}
 use Rattle.lines.specs.Lines.{SPACE}
-use Rattle.records.specs.Records.{wholeOf, pduIn}
-use Rattle.records.specs.Walks.{recordsOf, restOf}
+use Rattle.records.specs.Pdus.{Stood, stoodAfter, afterReads}
 use Rattle.judge.specs.declared.Reason.{Reason}
 use Rattle.judge.specs.declared.Reason.the-variants.{Reading, Kind, OtherChannel, Steps, Before}
 use Rattle.judge.specs.declared.Course.{Course}
 use Rattle.judge.specs.declared.Judgement.{Judgement}
 use Rattle.judge.specs.declared.Judgement.the-variants.{Yes, No, Early, Differs}
 use Rattle.judge.specs.declared.Stand.{Stand}
-use Rattle.judge.specs.Judge.{beginning, courseOver, judgementOn}
+use Rattle.judge.specs.Judge.{courseAfter, beginning, judgementOn}
 
 -- ---- the input: "number 4 bytes, message length 2 bytes, message, then the PDUs as in the walker"
 
@@ -39,10 +38,6 @@ numberIn head = valueOf (take NUMBER head)
 
 abbrev pub messageIn : List ℕ → List ℕ
 messageIn head = drop HEAD head
-
--- the whole records' PDUs
-unfoldable pub pdusIn : List ℕ → List (List ℕ)
-pdusIn input = map pduIn (recordsOf wholeOf input)
 
 -- ---- the line
 
@@ -78,10 +73,13 @@ lineAt head course left = cond (isWhole head && eqb left 0) (judgementLine (judg
 
 -- ---- a run
 
+-- where it stands, by what a walk over the PDUs keeps and leaves
+abbrev pub standOf : Stood Course → Stand
+standOf at = record { course = at .kept; had = length (at .left) }
+
 -- the bytes that are there, behind a course: the whole records are judged, and the rest is left
 unfoldable pub turned : ℕ → List ℕ → Course → List ℕ → Stand
-turned n message course input =
-    record { course = courseOver n message course (pdusIn input); had = length (restOf wholeOf input) }
+turned n message course input = standOf (stoodAfter (courseAfter n message) course input)
 
 -- where a run begins
 unfoldable pub atFirst : Stand
@@ -94,19 +92,12 @@ senderSays input =
     let stand = turned (numberIn head) (messageIn head) beginning (drop (headNeeds input) input) in
     lineAt head (stand .course) (stand .had)
 
--- the same in pieces: what is left, and behind it what each read brings
-unfoldable pub inPieces : ℕ → List ℕ → Course → List ℕ → List (List ℕ) → Stand
-inPieces n message course left [] = record { course = course; had = length left }
-inPieces n message course left (piece ∷ pieces) =
-    inPieces n message (turned n message course (left ++ piece) .course) (restOf wholeOf (left ++ piece)) pieces
-
--- all that reads bring
-unfoldable pub allOf : List (List ℕ) → List ℕ
-allOf [] = []
-allOf (piece ∷ pieces) = piece ++ allOf pieces
+-- the same in pieces
+unfoldable pub inPieces : ℕ → List ℕ → List (List ℕ) → Stand
+inPieces n message pieces = standOf (afterReads (courseAfter n message) (record { kept = beginning; left = [] }) pieces)
 
 -- what is said at the end of a run: `head` was read first, as far as it needs, and then the pieces
 unfoldable pub saidAtEnd : List ℕ → List (List ℕ) → List ℕ
 saidAtEnd head pieces =
-    let stand = inPieces (numberIn head) (messageIn head) beginning [] pieces in
+    let stand = inPieces (numberIn head) (messageIn head) pieces in
     lineAt head (stand .course) (stand .had)

@@ -11,8 +11,7 @@ use reading::Pdu;
 use records::LENGTH;
 ghost use mathlib.Core.Path.{_≡_};
 ghost use mathlib.Core.Bool.{_&&_};
-ghost use mathlib.Core.List.{List};
-ghost use Prim.Native.Nat.{ℕ, _≤_};
+ghost use Prim.Native.Nat.{_≤_};
 ghost use lib.Dec.{eqb};
 ghost use lib.ListN.{length};
 ghost use Rattle.lists.specs.Bytes.{laid};
@@ -20,8 +19,9 @@ ghost use Rattle.channel.specs.Stages.{took};
 ghost use Rattle.lines.specs.Lines.{LINE-MAX};
 ghost use Rattle.records.specs.Records.{wholeOf};
 ghost use Rattle.records.specs.Walks.{recordsOf, sizeOf, restOf};
+ghost use Rattle.records.specs.Pdus.{pdusIn};
 ghost use Rattle.judge.specs.Judge.{agrees, courseBy, brought, courseAfter, courseOver, judgementOn};
-ghost use Rattle.judge.specs.Sender.{HEAD, HEAD-MAX, headNeeds, isWhole, pdusIn, REASON-MAX, reasonField, judgementLine, lineAt, turned, atFirst};
+ghost use Rattle.judge.specs.Sender.{HEAD, HEAD-MAX, headNeeds, isWhole, REASON-MAX, reasonField, judgementLine, lineAt, turned, atFirst};
 
 // The bytes of the channel's number, and of number and message length.
 pub const NUMBER: usize = 4;

@@ -2,8 +2,8 @@
 -- `receive` answers, which specs/Received says.
 -- Assumes nothing.
 use mathlib.Core.Path.{refl}
-use mathlib.Core.List.{[]}
-use Rattle.judge.specs.Judge.{judgementOn, courseOver, beginning, judged}
+use Rattle.records.specs.Pdus.{afterPdus}
+use Rattle.judge.specs.Judge.{judgementOn, beginning, judged}
 use Rattle.judge.proofs.Pieces as pieces
 use Rattle.demands.proofs.Cut as cutting
 use Rattle.judge_demands.specs.Sender.{YesExactlyIf, NoNamesTheFirst, EarlyOrOtherBytes, OursGetsYes, WhateverThePieces}
@@ -32,7 +32,7 @@ no-names-the-first =
 
 -- "with none, that the list ended early, or else that the bytes differ"
 pub early-or-other-bytes : EarlyOrOtherBytes
-unfolding judged courseOver beginning judgementOn
+unfolding judged afterPdus beginning judgementOn
 early-or-other-bytes =
     record {
       early-is-held = λ n m pdus e st o cs r. verdicts.is-held n m pdus st o cs r e;
@@ -55,6 +55,6 @@ ours-gets-yes =
 -- "records in the walker's input form, in pieces as the walker takes them"
 pub whatever-the-pieces : WhateverThePieces
 whatever-the-pieces =
-    record { stands = λ n m reads. pieces.however-cut n m beginning [] reads pieces.none-at-first; says = pieces.says-for-all }
+    record { stands = pieces.stands; says = pieces.says-for-all }
 
 -- One outcome for each input, of every public function: proofs/OneOutcome

@@ -12,7 +12,8 @@ use Rattle.demands.specs.Cut.{Cut, CutByUs, CutFromC, NoneRefused}
 use Rattle.judge.specs.declared.Reason.{Reason}
 use Rattle.judge.specs.declared.Judgement.the-variants.{Yes, No, Early, Differs}
 use Rattle.judge.specs.Judge.{beginning, judged}
-use Rattle.judge.specs.Sender.{headNeeds, turned, senderSays, inPieces, allOf, saidAtEnd}
+use Rattle.records.specs.Pdus.{allOf}
+use Rattle.judge.specs.Sender.{headNeeds, turned, senderSays, inPieces, saidAtEnd}
 use Rattle.judge_demands.specs.Received.{OpenAndIdle, Receives, HandsUp, AllHeld, FirstFault}
 
 -- in every state in which the channel is open and idle, the PDUs received one by one hand up the message at the last, and
@@ -108,7 +109,7 @@ pub record OursGetsYes : Type 0 where
 pub record WhateverThePieces : Type 0 where
   -- a run stands where one turn over all of them would
   pub stands :
-      (n : ℕ) (m : List ℕ) (pieces : List (List ℕ)) → inPieces n m beginning [] pieces ≡ turned n m beginning (allOf pieces)
+      (n : ℕ) (m : List ℕ) (pieces : List (List ℕ)) → inPieces n m pieces ≡ turned n m beginning (allOf pieces)
   -- and what is said at its end is the program's line for all that was read. Number and message are read first: as many bytes as
   -- they need, or fewer where the input ends there
   pub says :

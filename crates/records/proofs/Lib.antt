@@ -1,5 +1,6 @@
 pub mod Framings
 pub mod Rests
+pub mod Pdus
 pub mod Records
 pub mod Desk
 pub mod Pieces

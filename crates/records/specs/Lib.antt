@@ -1,3 +1,4 @@
 pub mod Records
 pub mod Desk
 pub mod Walks
+pub mod Pdus

@@ -1,22 +1,20 @@
 -- `judge::walk` meets its contract. What is left of the walk always leads to the same end; each turn judges the record in front.
 use mathlib.Core.Path.{_≡_, refl, sym, ap, _∙_}
 use denote.Ref.{now}
-use Prim.Native.Nat.{ℕ, _+_, _-_, _≤_, _<_}
+use Prim.Native.Nat.{_+_, _-_, _≤_, _<_}
 use lib.ListN.{length, drop, length-drop}
-use lib.Seq.{drop-drop}
 use Rattle.lists.proofs.Laid.{to-end}
 use Rattle.records.specs.Records.{LENGTH, wholeOf}
-use Rattle.records.proofs.Records.{whole-fits, whole-framing}
-use Rattle.records.proofs.Rests.{size-first}
+use Rattle.records.proofs.Records.{whole-fits}
+use Rattle.records.proofs.Pdus.{Left, goes-on, pdu-lent, ends}
 use Rattle.judge.specs.Judge.{courseAfter}
-use Rattle.judge.proofs.Walks.{Left, first-judged, pdu-lent, ends}
 use borrow.Author.Needs.{needs}
 use native.Mathlib.Omega.{arith}
 use Rattle.judge.proofs.walk.Statement.{statement}
 use Rattle.judge.proofs.walk.Tie as tie
 
 abbrev Inv-loop : tie.InvT-loop
-Inv-loop number message input next₀ at₀ next at = Left number message next₀ input next at
+Inv-loop number message input next₀ at₀ next at = Left (courseAfter number message) next₀ input next at
 
 abbrev μ-loop : tie.MeasureT-loop
 μ-loop number message input next₀ at₀ next at = length input - at
@@ -80,20 +78,13 @@ loop-again c =
     let at-loop = found .before .before .before .before in
     let l = at-loop .loop in
     let a = at-loop .before .before .before .args in
-    let m = now (a .message) in
+    let judge = courseAfter (a .number) (now (a .message)) in
     let input = now (a .input) in
     let n = found .before .whole .result in
     let front = in-front found in
-    let some : 0 < wholeOf (drop (l .at) input) = omega (arith, front) in
     let pdu = pdu-lent input (l .at) n (front .0) (omega (arith, front)) in
-    let on = drop-drop (wholeOf (drop (l .at) input)) (l .at) input in
-    let judged = c .judge .ensures ∙ ap (courseAfter (a .number) m (l .next)) pdu in (
-      omega (arith, front),
-      (
-        l .inv .1 .0 ∙ first-judged (a .number) m (l .next) (drop (l .at) input) some ∙ rw (on, front .0, judged) refl,
-        l .inv .1 .1 ∙ rw (size-first whole-framing (drop (l .at) input) some, on, front .0) (omega arith),
-      ),
-    )
+    rw (c .judge .ensures ∙ ap (judge (l .next)) pdu)
+    (goes-on judge (a .course) input (l .next) (l .at) n (l .inv) (front .0) (omega (arith, front)) (front .1 .1))
 
 returns : tie.Need-returns Inv-loop μ-loop
 returns c =
@@ -101,7 +92,7 @@ returns c =
     let a = c .before .before .before .before .args in
     let input = now (a .input) in
     let none : wholeOf (drop (l .at) input) ≡ 0 = omega (arith, whole-fits (drop (l .at) input) .0, length-drop (l .at) input, c .loop-test .left) in
-    ends (a .number) (now (a .message)) (a .course) input (l .next) (l .at) (l .inv) none
+    ends (courseAfter (a .number) (now (a .message))) (a .course) input (l .next) (l .at) (l .inv) none
 
 returns-2 : tie.Need-returns-2 Inv-loop μ-loop
 returns-2 c =
@@ -110,7 +101,7 @@ returns-2 c =
     let a = at-loop .before .before .before .args in
     let input = now (a .input) in
     let none = sym (c .before .whole .ensures ∙ ap wholeOf (to-end input (l .at))) ∙ c .if1 .taken in
-    ends (a .number) (now (a .message)) (a .course) input (l .next) (l .at) (l .inv) none
+    ends (courseAfter (a .number) (now (a .message))) (a .course) input (l .next) (l .at) (l .inv) none
 
 pub walk-spec : {M : Type 1} → statement M
 walk-spec =
