@@ -57,7 +57,7 @@ use Rattle.connection.proofs.Frame.{shut-past, opened}
 
 -- ---- what data comes to: only the three spoil, they always do, and each concerns the channel
 
-abbrev Right : Took → Type 0
+abbrev pub Right : Took → Type 0
 Right (Bars why) = (isOfThree why ≡ false) × (ltb 7 (refusalNumber why) ≡ true)
 Right (Spoils why) = (isOfThree why ≡ true) × (ltb 7 (refusalNumber why) ≡ true)
 Right (Holds wanted at held) = Unit {0}
@@ -67,7 +67,7 @@ added-right : (wanted held n : ℕ) → Right (added wanted held n)
 unfolding added isOfThree
 added-right wanted held n = choice Right (ltb wanted (held + n)) (λ e. (refl, refl)) (λ e. choice Right (eqb (held + n) wanted) (λ f. tt) (λ f. tt))
 
-took-right : (s : Stage) (offer : Offer) (n : ℕ) → Right (took s offer n)
+pub took-right : (s : Stage) (offer : Offer) (n : ℕ) → Right (took s offer n)
 unfolding took tookFirst isOfThree
 took-right Idle (First len) n = choice Right (ltb MESSAGE-MAX len) (λ e. (refl, refl)) (λ e. added-right len 0 n)
 took-right Idle More n = tt
@@ -259,7 +259,7 @@ unfolding isOfThree
 time-kept = refl
 
 -- what reading makes sure of a refusal in it
-abbrev Mild : Event → Type 0
+abbrev pub Mild : Event → Type 0
 Mild (Unreadable why) = isOfThree why ≡ false
 Mild (Capabilities version) = Unit {0}
 Mild (Of n a) = MildAct a
@@ -381,6 +381,9 @@ mild-read list pdu (CapsRequest version charges) h = tt
 mild-read list pdu (CapsResponse version) h = refl
 mild-read list pdu (NotRead why) h = mild-unread why (carries pdu) h
 
+pub mild-pdu : (list pdu : List ℕ) → Mild (eventOf list pdu (readPdu true pdu))
+mild-pdu list pdu = mild-read list pdu (readPdu true pdu) (placed pdu true)
+
 -- "A refusal writes nothing to the reply or to the message store and changes no channel, except that three listed refusals mark
 -- the one channel concerned as spoiled", and those of reading do for a garbled block
 pub receive-refused :
@@ -388,7 +391,7 @@ pub receive-refused :
     → received t store list pdu reply .result .answer ≡ Refused why concern
     → RefusedCall t store reply (eventOf list pdu (readPdu true pdu)) (received t store list pdu reply) why concern
 unfolding received
-receive-refused t store list pdu reply why concern rows e = guarded-refusing t store reply (eventOf list pdu (readPdu true pdu)) rows (mild-read list pdu (readPdu true pdu) (placed pdu true)) why concern e
+receive-refused t store list pdu reply why concern rows e = guarded-refusing t store reply (eventOf list pdu (readPdu true pdu)) rows (mild-pdu list pdu) why concern e
 
 pub local-close-refused :
     (t : Table) (store : List ℕ) (n : ℕ) (reply : List ℕ) (why : Refusal) (concern : Concern) → length (t .records) ≡ PARTS
