@@ -1,0 +1,5 @@
+pub mod Notes
+pub mod Answers
+pub mod Digits
+pub mod Pieces
+pub mod One

@@ -1,0 +1,3 @@
+pub mod Notes
+pub mod Cause
+pub mod Why
