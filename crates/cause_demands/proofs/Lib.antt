@@ -1,0 +1,9 @@
+pub mod Moves
+pub mod Runs
+pub mod Stories
+pub mod Thirteens
+pub mod Causes
+pub mod Ways
+pub mod Walker
+pub mod Main
+pub mod OneOutcome
