@@ -1,5 +1,5 @@
 #!/usr/bin/env python3
-"""Compares two walkers, or two programs that print the messages handed up or counts, on generated inputs.
+"""Compares two walkers, or two programs that print the messages handed up, counts, or why a PDU got its answer, on generated inputs.
 
 usage: fuzz.py SEED COUNT KEEP WALKER [WORD..] -- WALKER [WORD..]
 
@@ -313,18 +313,18 @@ def first_difference(a, b):
 
 
 def compare(named, keep, walkers):
-    """Runs both walkers on each input, given with its name. The status: 1 at the first difference."""
+    """Runs both walkers on each input, given with its name and the words for it alone. The status: 1 at the first difference."""
     runs = pdus = 0
     words = {}
-    for name, stream in named:
-        a, b = (output(walker, stream) for walker in walkers)
+    for name, stream, *more in named:
+        a, b = (output(walker + more, stream) for walker in walkers)
         if a != b:
             os.makedirs(keep, exist_ok=True)
             path = os.path.join(keep, name)
             with open(path, "wb") as f:
                 f.write(stream)
             line, pair = first_difference(a, b)
-            print(f"the two differ on {path}, in line {line}:")
+            print(f"the two differ on {' '.join([path] + more)}, in line {line}:")
             for walker, text in zip(walkers, pair):
                 print(f"  {walker[0]}: {text.decode('latin-1')}")
             return 1
@@ -341,6 +341,10 @@ def compare(named, keep, walkers):
                 continue
             if parts[0] in ("yes", "no", "cut"):
                 word = parts[0] if len(parts) == 1 else f"no {parts[-1]}"
+            elif not parts[0].isdigit():
+                word = parts[0]
+                if word == "refused":
+                    word = ("spoiled by " if parts[-2] == "by" else "rule ") + parts[-1]
             elif len(parts) == 3:
                 word = "messages of no bytes" if parts[2] == "-" else "messages of bytes"
             else:

@@ -7,6 +7,9 @@
  *   plain messages < PDUS     the bytes of each message handed up
  *   plain lamp < PDUS         after each PDU, or local close, the open channels
  *                             and the bytes still to come
+ *   plain why PLACE < PDUS    the answer to the PDU at PLACE, from 0; behind a
+ *                             13 what spoiled the channel, behind any other
+ *                             refusal the first rule that held
  *   plain bench ROUNDS FILE   all PDUs of FILE, ROUNDS times, each round from
  *                             Start and ended by closing what is open; how
  *                             many calls got each answer, and the messages
@@ -178,7 +181,7 @@ static enum refusal read_pdu(const uint8_t *bytes, size_t length, struct pdu *pd
 }
 
 /* The channel number of a block of data, compressed or not, if all its bytes are there: also where the PDU is refused. */
-static bool block_number(const uint8_t *bytes, size_t length, uint32_t *number)
+static inline bool block_number(const uint8_t *bytes, size_t length, uint32_t *number)
 {
     struct cursor c = {bytes + 1, bytes + length};
     unsigned command;
@@ -534,14 +537,15 @@ static const uint8_t listeners[] = "PUMP"; /* with its zero: one name */
 static struct manager the_manager;
 static uint8_t the_reply[REPLY_MAX];
 
-static void print_answer(uint64_t place, const struct answer *a)
+/* The fields of an answer. */
+static void print_answer(const struct answer *a)
 {
-    printf("%llu %s ", (unsigned long long)place, word_names[a->word]);
+    printf("%s ", word_names[a->word]);
     if (a->has_channel)
         printf("%lu", (unsigned long)a->channel);
     else
         putchar('-');
-    printf(" %lu %zu\n", (unsigned long)a->number, a->reply_length);
+    printf(" %lu %zu", (unsigned long)a->number, a->reply_length);
 }
 
 /* A record for the lamp: one whose first byte is 0, which no command has, is a local close of the number behind it. */
@@ -585,7 +589,9 @@ static int walk(bool lamp)
             continue;
         }
         a = receive(&the_manager, record, length, listeners, sizeof listeners, the_reply);
-        print_answer(place, &a);
+        printf("%llu ", (unsigned long long)place);
+        print_answer(&a);
+        putchar('\n');
     }
     if (ferror(stdin) || fflush(stdout) != 0 || ferror(stdout)) {
         fputs("plain: input or output failed\n", stderr);
@@ -622,6 +628,137 @@ static int messages(void)
         if (a.word == MESSAGE)
             print_message(place, &a);
     }
+    if (ferror(stdin) || fflush(stdout) != 0 || ferror(stdout)) {
+        fputs("plain: input or output failed\n", stderr);
+        return 1;
+    }
+    return 0;
+}
+
+/* The first rule that a PDU breaks in reading, by a second look at it. */
+static const char *reading_rule(const uint8_t *bytes, size_t length)
+{
+    enum { CHARGES = 4 };
+    struct cursor c = {bytes + 1, bytes + length};
+    unsigned command, middle, id_width;
+    uint32_t value, charge;
+
+    if (length == 0)
+        return "empty";
+    if (length > PDU_MAX)
+        return "long";
+    command = bytes[0] >> 4;
+    middle = bytes[0] >> 2 & 3;
+    id_width = bytes[0] & 3;
+    if (command < CREATE || command > CAPABILITIES)
+        return "command";
+    if (command == CAPABILITIES ? id_width != 0 : id_width == 3)
+        return "cbid";
+    if (command == DATA_FIRST && middle == 3)
+        return "length-width";
+    if (command == CAPABILITIES) {
+        if (!take_number(&c, 0, &value))
+            return "ended";
+        if (value != 0)
+            return "pad";
+        if (!take_number(&c, 1, &value))
+            return "ended";
+        if (value < 1 || value > 3)
+            return "version";
+        for (int i = 0; value > 1 && i < CHARGES; i++)
+            if (!take_number(&c, 1, &charge))
+                return "ended";
+    } else if (!take_number(&c, id_width, &value) || (command == DATA_FIRST && !take_number(&c, middle, &value))) {
+        return "ended";
+    }
+    if (command == CREATE) {
+        while (c.at < c.end && *c.at != 0)
+            c.at++;
+        if (c.at == c.end)
+            return "ended";
+        c.at++;
+    }
+    if (command != DATA_FIRST && command != DATA && c.at != c.end)
+        return "left-over";
+    return "none";
+}
+
+/* The rule of a refusal other than 13. */
+static const char *rule_of(enum refusal refusal, const uint8_t *bytes, size_t length)
+{
+    switch (refusal) {
+    case OUT_OF_TURN:
+        return bytes[0] >> 4 == CAPABILITIES ? "ready-already" : "not-ready";
+    case BAD_LIST:
+        return "list";
+    case ALREADY_OPEN:
+        return "open-already";
+    case NOT_OPEN:
+        return "not-open";
+    case FIRST_WHILE_JOINING:
+        return "joining";
+    case LENGTH_OVER:
+        return "over-limit";
+    case BLOCK_OVER:
+        return "past-length";
+    default:
+        return reading_rule(bytes, length);
+    }
+}
+
+/* What spoiled a channel. */
+struct note {
+    uint64_t place;
+    uint32_t refusal;
+};
+
+static struct note the_notes[CHANNELS];
+
+/* One PDU, and a note if it is what spoils a channel. */
+static struct answer noted(uint64_t place, const uint8_t *bytes, size_t length)
+{
+    uint32_t number;
+    struct channel *ch = block_number(bytes, length, &number) ? find(&the_manager, number) : NULL;
+    bool was_good = ch != NULL && ch->stage != SPOILED;
+    struct answer a = receive(&the_manager, bytes, length, listeners, sizeof listeners, the_reply);
+
+    if (was_good && ch->stage == SPOILED)
+        the_notes[ch - the_manager.channels] = (struct note){place, a.number};
+    if (a.word == OPENED)
+        the_notes[find(&the_manager, a.channel) - the_manager.channels] = (struct note){0};
+    return a;
+}
+
+/* The answer to the PDU at a place, and why it was given. */
+static int why(uint64_t sought, bool beyond)
+{
+    static uint8_t record[RECORD_MAX];
+    uint8_t prefix[2];
+    bool said = false;
+
+    start(&the_manager);
+    for (uint64_t place = 0; !beyond && !said && fread(prefix, 1, sizeof prefix, stdin) == sizeof prefix; place++) {
+        size_t length = (size_t)prefix[0] | (size_t)prefix[1] << 8;
+        struct answer a;
+
+        if (fread(record, 1, length, stdin) < length)
+            break;
+        a = noted(place, record, length);
+        said = place == sought;
+        if (!said)
+            continue;
+        print_answer(&a);
+        if (a.word == REFUSED && a.number == SPOILED_CHANNEL) {
+            const struct note *note = &the_notes[find(&the_manager, a.channel) - the_manager.channels];
+
+            printf(" spoiled at %llu by %lu", (unsigned long long)note->place, (unsigned long)note->refusal);
+        } else if (a.word == REFUSED) {
+            printf(" rule %s", rule_of((enum refusal)a.number, record, length));
+        }
+        putchar('\n');
+    }
+    if (!said && !ferror(stdin))
+        puts("absent");
     if (ferror(stdin) || fflush(stdout) != 0 || ferror(stdout)) {
         fputs("plain: input or output failed\n", stderr);
         return 1;
@@ -701,9 +838,30 @@ static bool read_count(const char *s, uint32_t *count)
     return true;
 }
 
+/* A place: decimal digits, as many as there may be. 2^64 and more is beyond every place. */
+static bool read_place(const char *s, uint64_t *place, bool *beyond)
+{
+    if (*s == '\0')
+        return false;
+    *beyond = false;
+    for (*place = 0; *s != '\0'; s++) {
+        unsigned digit = (unsigned)(*s - '0');
+
+        if (*s < '0' || *s > '9')
+            return false;
+        if (*place > (UINT64_MAX - digit) / 10)
+            *beyond = true;
+        else
+            *place = 10 * *place + digit;
+    }
+    return true;
+}
+
 int main(int argc, char **argv)
 {
     uint32_t rounds;
+    uint64_t place;
+    bool beyond;
 
     if (argc == 2 && strcmp(argv[1], "walk") == 0)
         return walk(false);
@@ -711,8 +869,10 @@ int main(int argc, char **argv)
         return walk(true);
     if (argc == 2 && strcmp(argv[1], "messages") == 0)
         return messages();
+    if (argc == 3 && strcmp(argv[1], "why") == 0 && read_place(argv[2], &place, &beyond))
+        return why(place, beyond);
     if (argc == 4 && strcmp(argv[1], "bench") == 0 && read_count(argv[2], &rounds))
         return bench(rounds, argv[3]);
-    puts("usage: plain walk | plain messages | plain lamp | plain bench ROUNDS FILE");
+    puts("usage: plain walk | plain messages | plain lamp | plain why PLACE | plain bench ROUNDS FILE");
     return 2;
 }

@@ -1,10 +1,11 @@
 #!/usr/bin/env python3
-"""Compares two programs on generated inputs of `moves`, of `desk`, of `link` or of `sender` (docs/PROGRAMS.md).
+"""Compares two programs on generated inputs of `moves`, of `desk`, of `link`, of `sender` or of `why` (docs/PROGRAMS.md).
 
-usage: generate.py moves|desk|link|sender SEED COUNT KEEP PROGRAM [WORD..] -- PROGRAM [WORD..]
+usage: generate.py moves|desk|link|sender|why SEED COUNT KEEP PROGRAM [WORD..] -- PROGRAM [WORD..]
 
 COUNT inputs are made from SEED: sessions of a host and its peer, some of them disturbed. bench/fuzz.py compares, and keeps an input on
-which the two differ in the folder KEEP.
+which the two differ in the folder KEEP. Of `why` each input is asked at eight places, and before them stand the sweeps of bench/fuzz.py,
+each asked at one.
 """
 import os
 import random
@@ -193,12 +194,82 @@ def sender(seed, i):
     return cut_off(r, whole) if r.random() < 0.2 else whole
 
 
+# ---- places of the walker's input
+
+
+def request_gone_wrong(r):
+    """A Capabilities request with Pad, Version or its end mostly wrong."""
+    pdu = bytes([0x50 + r.choice([0, 0, 0, 0, 1, 3]), r.choice([0, 0, 0, 1])]) + r.choice([0, 1, 2, 3, 4, 256]).to_bytes(2, "little")
+    return (pdu + bytes(r.choice([0, 7, 8, 9])))[: r.choice([1, 2, 3, 4, 99, 99, 99])]
+
+
+def move_of(r, s):
+    """One PDU more of a session, on one of its few numbers."""
+    n, what = r.choice(s.numbers), r.randrange(20)
+    left = s.left.get(n, 0)
+    if n not in s.left and what < 14:
+        s.open(n)
+    elif what < 5:
+        s.more(n, left if left and r.random() < 0.5 else r.choice([0, 1, 2]))
+    elif what < 8:
+        s.first(n, 4, r.choice([0, 1, 2, 4]))
+    elif what < 9:
+        s.first(n, r.choice([0, 4, 4096, 4097, 2**32 - 1]), r.choice([0, 1, 5]))
+    elif what < 11:
+        s.more(n, left + r.choice([0, 1]))
+    elif what < 14:
+        s.put(garbled(r, n))
+    elif what < 16:
+        s.close(n)
+    elif what == 16:
+        s.open(n, r.choice(fuzz.NAMES))
+    elif what == 17:
+        s.put(r.choice([request_gone_wrong(r), request_gone_wrong(r), capabilities(r)]))
+    elif what == 18:
+        s.put(r.choice([close(r, n) + b"\0", fuzz.create(r, n)[:-1], fuzz.create(r, n) + b"\0", b"", bytes(1601), close(r, n)[:1]]))
+    else:
+        s.put(data(r, r.choice([0, 5, 256]), 1))
+
+
+def why(r):
+    """A session on few numbers, or with all sixteen records taken."""
+    numbers = fuzz.some_numbers(r) if r.random() < 0.2 else r.sample(fuzz.NUMBERS, r.choice([1, 1, 2, 3]))
+    s = fuzz.Session(r, numbers)
+    for _ in range(r.choice([0, 0, 0, 1, 2])):
+        s.put(r.choice([request_gone_wrong(r), garbled(r, numbers[0]), data(r, numbers[0], 1), close(r, numbers[0])]))
+    s.put(capabilities(r))
+    for n in numbers:
+        s.open(n)
+    for _ in range(r.randint(1, 30 + 2 * len(numbers))):
+        move_of(r, s)
+    return s.pdus
+
+
+def written(r, place):
+    """A place in digits: mostly its own, or behind zeros, or of the number that is 2^64 above."""
+    return r.choice([str(place)] * 30 + ["0" * r.choice([1, 30]) + str(place), str(2**64 + place)])
+
+
+def asked(seed, count):
+    """The inputs of `why`, each with a place: first the sweeps."""
+    for i, pdus in enumerate(fuzz.sweeps()):
+        r = random.Random(f"sweep/{seed}/{i}")
+        yield f"sweep-{i}", b"".join(map(record, pdus)), written(r, r.randrange(len(pdus)))
+    for i in range(count):
+        r = random.Random(f"why/{seed}/{i}")
+        pdus = why(r)
+        stream = cut_off(r, b"".join(map(record, pdus)))
+        blocks = [k for k, pdu in enumerate(pdus) if pdu and pdu[0] >> 4 in (2, 3)] + [len(pdus)]
+        for _ in range(8):
+            yield f"why-{seed}-{i}", stream, written(r, r.choice([r.choice(blocks), r.choice(blocks), r.randrange(len(pdus))]))
+
+
 def main():
     makers = {"moves": moves, "desk": desk, "link": link, "sender": sender}
-    if len(sys.argv) < 8 or sys.argv[1] not in makers:
+    if len(sys.argv) < 8 or sys.argv[1] not in [*makers, "why"]:
         sys.exit(__doc__)
-    make, seed, count, keep = makers[sys.argv[1]], sys.argv[2], int(sys.argv[3]), sys.argv[4]
-    named = ((f"{sys.argv[1]}-{seed}-{i}", make(seed, i)) for i in range(count))
+    job, seed, count, keep = sys.argv[1], sys.argv[2], int(sys.argv[3]), sys.argv[4]
+    named = asked(seed, count) if job == "why" else ((f"{job}-{seed}-{i}", makers[job](seed, i)) for i in range(count))
     return fuzz.compare(named, keep, fuzz.both(sys.argv[5:], __doc__))
 
 
