@@ -135,19 +135,7 @@ fn reading_rule(pdu: &[u8], why: Refusal) -> Broken
         Refusal::NoCommand => Broken::Broke(Rule::Command),
         Refusal::BadField => Broken::Broke(field_rule(pdu)),
         // Reading refuses with no other.
-        Refusal::BadCall => Broken::NoRule,
-        Refusal::BadList => Broken::NoRule,
-        Refusal::WrongTime => Broken::NoRule,
-        Refusal::NotOpen => Broken::NoRule,
-        Refusal::AlreadyOpen => Broken::NoRule,
-        Refusal::StillJoining => Broken::NoRule,
-        Refusal::OverLimit => Broken::NoRule,
-        Refusal::PastLength => Broken::NoRule,
-        Refusal::IsSpoiled => Broken::NoRule,
-        Refusal::NoStart => Broken::NoRule,
-        Refusal::AllTaken => Broken::NoRule,
-        Refusal::NotAwaited => Broken::NoRule,
-        Refusal::Loose => Broken::NoRule,
+        _ => Broken::NoRule,
     }
 }
 
