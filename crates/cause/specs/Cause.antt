@@ -53,6 +53,9 @@ pub record Way : Type 0 where
   pub course : Course
   pub store : List ℕ
 
+abbrev pub wayOf : Course → List ℕ → Way
+wayOf course store = record { course = course; store = store }
+
 -- what the client's step gives
 abbrev pub heardOn : List ℕ → Way → List ℕ → Whole
 heardOn list w pdu = received (w .course .table) (w .store) list pdu (zeros REPLY-MIN)

@@ -30,7 +30,7 @@ ghost use Rattle.records.specs.Records.{wholeOf};
 ghost use Rattle.records.specs.Walks.{recordsOf, sizeOf, restOf};
 ghost use Rattle.records.specs.Pdus.{pdusIn, afterPdus};
 ghost use Rattle.cause.specs.Notes.{noteAt, turned, notedFrom, notesAfter};
-ghost use Rattle.cause.specs.Cause.{causeNamed, causeBy, causeOf, saidBy, courseOn, wayAfter, startCourse, turnedTo, standOf};
+ghost use Rattle.cause.specs.Cause.{causeNamed, causeBy, causeOf, saidBy, courseOn, wayOf, wayAfter, startCourse, turnedTo, standOf};
 ghost use Rattle.cause.specs.Why.{isDigit, soughtBy, soughtIn, WHY-MAX, whyLine, saidLine};
 
 // What spoiled a channel: the place of the PDU, and the refusal that it got.
@@ -287,8 +287,8 @@ fn onward(sought: u64, course: Course, list: &[u8], pdu: &[u8], received: Receiv
 
 // One PDU more: the client's step for it.
 fn step(sought: u64, course: Course, store: &mut [u8], list: &[u8], pdu: &[u8]) -> Course
-    ensures { λ r. ⌜ r ≡ wayAfter sought (now (list .entry)) (record { course = course; store = now (store .entry) }) (now (pdu .entry)) .course ⌝ }
-    ensures { λ _. ⌜ now (store .exit) ≡ wayAfter sought (now (list .entry)) (record { course = course; store = now (store .entry) }) (now (pdu .entry)) .store ⌝ }
+    ensures { λ r. ⌜ r ≡ wayAfter sought (now (list .entry)) (wayOf course (now (store .entry))) (now (pdu .entry)) .course ⌝ }
+    ensures { λ _. ⌜ now (store .exit) ≡ wayAfter sought (now (list .entry)) (wayOf course (now (store .entry))) (now (pdu .entry)) .store ⌝ }
 {
     let table = course.table;
     let mut reply = [0u8; REPLY_MIN];
@@ -298,8 +298,10 @@ fn step(sought: u64, course: Course, store: &mut [u8], list: &[u8], pdu: &[u8]) 
 
 // Walks through the whole records at the front of the input.
 fn walk(sought: u64, course: Course, store: &mut [u8], list: &[u8], input: &[u8]) -> Walked
-    ensures { λ r. ⌜ r .course ≡ afterPdus (wayAfter sought (now (list .entry))) (record { course = course; store = now (store .entry) }) (pdusIn (now (input .entry))) .course ⌝ }
-    ensures { λ _. ⌜ now (store .exit) ≡ afterPdus (wayAfter sought (now (list .entry))) (record { course = course; store = now (store .entry) }) (pdusIn (now (input .entry))) .store ⌝ }
+    ensures { λ r. ⌜ r .course ≡ afterPdus (wayAfter sought (now (list .entry)))
+        (wayOf course (now (store .entry))) (pdusIn (now (input .entry))) .course ⌝ }
+    ensures { λ _. ⌜ now (store .exit) ≡ afterPdus (wayAfter sought (now (list .entry)))
+        (wayOf course (now (store .entry))) (pdusIn (now (input .entry))) .store ⌝ }
     ensures { λ r. ⌜ (r .taken ≡ sizeOf (recordsOf wholeOf (now (input .entry)))) × (r .taken ≤ length (now (input .entry))) ⌝ }
 {
     let mut next = course;
@@ -344,8 +346,10 @@ pub fn begin(store: &mut [u8]) -> Stand
 // Takes the whole records of the input that is there, what was left and behind it what was read. What is left then comes to the
 // front.
 pub fn turn(sought: u64, course: Course, store: &mut [u8], list: &[u8], input: &mut [u8]) -> Stand
-    ensures { λ r. ⌜ (r ≡ standOf (turnedTo sought (now (list .entry)) (record { course = course; store = now (store .entry) }) (now (input .entry)))) × (r .had ≤ length (now (input .entry))) ⌝ }
-    ensures { λ _. ⌜ now (store .exit) ≡ turnedTo sought (now (list .entry)) (record { course = course; store = now (store .entry) }) (now (input .entry)) .kept .store ⌝ }
+    ensures { λ r. ⌜ (r ≡ standOf (turnedTo sought (now (list .entry)) (wayOf course (now (store .entry))) (now (input .entry))))
+        × (r .had ≤ length (now (input .entry))) ⌝ }
+    ensures { λ _. ⌜ now (store .exit) ≡ turnedTo sought (now (list .entry))
+        (wayOf course (now (store .entry))) (now (input .entry)) .kept .store ⌝ }
     ensures { λ _. ⌜ now (input .exit) ≡ laid (now (input .entry)) 0 (restOf wholeOf (now (input .entry))) ⌝ }
 {
     let walked = walk(sought, course, store, list, input);
@@ -360,7 +364,8 @@ pub fn turn(sought: u64, course: Course, store: &mut [u8], list: &[u8], input: &
 
 // The number so far with a digit behind it, or no place where that is no digit.
 fn with_digit(so_far: Sought, digit: u8) -> Sought
-    ensures { λ r. ⌜ ((front : ℕ) → «so_far» ≡ soughtBy front → r ≡ cond (isDigit digit) (soughtBy (10 * front + (digit - 48))) Sought.NoPlace) ⌝ }
+    ensures { λ r. ⌜ ((front : ℕ) → «so_far» ≡ soughtBy front
+        → r ≡ cond (isDigit digit) (soughtBy (10 * front + (digit - 48))) Sought.NoPlace) ⌝ }
     ensures { λ r. ⌜ («so_far» ≡ Sought.NoPlace → r ≡ Sought.NoPlace) ⌝ }
 {
     if digit < ZERO {

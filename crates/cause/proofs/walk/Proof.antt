@@ -9,14 +9,11 @@ use Rattle.records.specs.Records.{LENGTH, wholeOf}
 use Rattle.records.proofs.Records.{whole-fits}
 use Rattle.records.proofs.Pdus.{Left, goes-on, pdu-lent, ends}
 use Rattle.cause.specs.declared.Course.{Course}
-use Rattle.cause.specs.Cause.{Way, wayAfter}
+use Rattle.cause.specs.Cause.{Way, wayOf, wayAfter}
 use borrow.Author.Needs.{needs}
 use native.Mathlib.Omega.{arith}
 use Rattle.cause.proofs.walk.Statement.{statement}
 use Rattle.cause.proofs.walk.Tie as tie
-
-abbrev way : Course → List ℕ → Way
-way course store = record { course = course; store = store }
 
 abbrev course-of : Way → Course
 course-of w = w .course
@@ -26,7 +23,7 @@ store-of w = w .store
 
 abbrev Inv-loop : tie.InvT-loop
 Inv-loop sought store₀ list input next₀ at₀ store next at =
-    (length store ≡ length store₀) × Left (wayAfter sought list) (way next₀ store₀) input (way next store) at
+    (length store ≡ length store₀) × Left (wayAfter sought list) (wayOf next₀ store₀) input (wayOf next store) at
 
 abbrev μ-loop : tie.MeasureT-loop
 μ-loop sought store₀ list input next₀ at₀ store next at = length input - at
@@ -90,8 +87,8 @@ loop-again c =
     let n = found .before .whole .result in
     let front = in-front found in
     let pdu = pdu-lent input (l .at) n (front .0) (omega (arith, front)) in
-    let did = ap (after (way (l .next) (l .store))) pdu in
-    let on = goes-on after (way (a .course) (now (a .store))) input (way (l .next) (l .store)) (l .at) n (l .inv .1) (front .0)
+    let did = ap (after (wayOf (l .next) (l .store))) pdu in
+    let on = goes-on after (wayOf (a .course) (now (a .store))) input (wayOf (l .next) (l .store)) (l .at) n (l .inv .1) (front .0)
     (omega (arith, front)) (front .1 .1) in
     (search needs, rw (called .step .ensures .0 ∙ ap course-of did, called .step .ensures .1 ∙ ap store-of did) on)
 
@@ -101,7 +98,7 @@ returns c =
     let a = c .before .before .before .before .before .args in
     let input = now (a .input) in
     let none : wholeOf (drop (l .at) input) ≡ 0 = omega (arith, whole-fits (drop (l .at) input) .0, length-drop (l .at) input, c .loop-test .left) in
-    let end = ends (wayAfter (a .sought) (now (a .list))) (way (a .course) (now (a .store))) input (way (l .next) (l .store)) (l .at) (l .inv .1) none in
+    let end = ends (wayAfter (a .sought) (now (a .list))) (wayOf (a .course) (now (a .store))) input (wayOf (l .next) (l .store)) (l .at) (l .inv .1) none in
     (ap course-of (end .0), (ap store-of (end .0), end .1))
 
 returns-2 : tie.Need-returns-2 Inv-loop μ-loop
@@ -111,7 +108,7 @@ returns-2 c =
     let a = at-loop .before .before .before .before .args in
     let input = now (a .input) in
     let none = sym (c .before .whole .ensures ∙ ap wholeOf (to-end input (l .at))) ∙ c .if1 .taken in
-    let end = ends (wayAfter (a .sought) (now (a .list))) (way (a .course) (now (a .store))) input (way (l .next) (l .store)) (l .at) (l .inv .1) none in
+    let end = ends (wayAfter (a .sought) (now (a .list))) (wayOf (a .course) (now (a .store))) input (wayOf (l .next) (l .store)) (l .at) (l .inv .1) none in
     (ap course-of (end .0), (ap store-of (end .0), end .1))
 
 same-length : tie.Need-same-length Inv-loop μ-loop
