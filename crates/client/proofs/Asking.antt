@@ -3,12 +3,10 @@
 use mathlib.Core.Path.{_≡_, refl, sym, ap, _∙_}
 use mathlib.Core.Bool.{Bool, true, false, cond}
 use mathlib.Core.List.{List}
-use mathlib.Core.Logic.{⊎-elim}
-use Prim.Native.Nat.{ℕ, _+_, _-_, _≤_, _<_, min}
-use native.Mathlib.Omega.{arith}
-use lib.ListN.{length, take, drop, length-drop, drop-of-length-le}
-use Rattle.lists.proofs.Cases.{lt-or-le}
+use Prim.Native.Nat.{ℕ, _+_, _-_, min}
+use lib.ListN.{length, take, drop, length-drop}
 use Rattle.lists.proofs.Laid.{from-to, take-least}
+use Rattle.lists.proofs.Lent.{drop-least}
 use Rattle.paper.specs.declared.Refusal.{Refusal}
 use Rattle.reading.specs.declared.Extent.{Extent}
 use Rattle.reading.specs.declared.Pdu.{Pdu}
@@ -54,13 +52,6 @@ unfolding eventAsked closingOf told actOf
 event-closing n pdu = refl
 
 -- ---- a place that may reach past the PDU
-
-drop-least : (at : ℕ) (pdu : List ℕ) → drop (min at (length pdu)) pdu ≡ drop at pdu
-drop-least at pdu =
-    ⊎-elim
-    (λ (l : at < length pdu). let e : min at (length pdu) ≡ at = omega arith in rw e)
-    (λ (l : length pdu ≤ at). let e : min at (length pdu) ≡ length pdu = omega arith in let f : length pdu ≤ length pdu = omega arith in rw e (drop-of-length-le pdu f ∙ sym (drop-of-length-le pdu l)))
-    (lt-or-le at (length pdu))
 
 -- the bytes at a place, as far as there are any
 pub clipped :

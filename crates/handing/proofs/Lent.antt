@@ -1,6 +1,6 @@
 -- The bytes of a message in the store.
 -- Assumes nothing.
-use mathlib.Core.Path.{_≡_, sym, _∙_}
+use mathlib.Core.Path.{_≡_, sym}
 use mathlib.Core.Logic.{⊎-elim}
 use mathlib.Core.List.{List, []}
 use Prim.Native.Nat.{ℕ, _+_, _-_, _*_, _/_, _≤_, _<_, min}
@@ -10,15 +10,8 @@ use lib.Seq.{take-take, take-all, take-nil}
 use Rattle.paper.specs.Sizes.{PART}
 use Rattle.lists.proofs.Cases.{lt-or-le}
 use Rattle.lists.proofs.Laid.{take-least}
+use Rattle.lists.proofs.Lent.{drop-least}
 use Rattle.store.specs.Parts.{part}
-
--- past the end there is nothing
-drop-least : (s : ℕ) (l : List ℕ) → drop (min s (length l)) l ≡ drop s l
-drop-least s l =
-    ⊎-elim
-    (λ (k : s < length l). let e : min s (length l) ≡ s = omega arith in rw e)
-    (λ (k : length l ≤ s). rw (drop-of-length-le l {i = s} k, drop-of-length-le l {i = min s (length l)} (omega arith)))
-    (lt-or-le s (length l))
 
 -- the first bytes of a front
 take-front : (n m : ℕ) (l : List ℕ) → take (min n m) l ≡ take n (take m l)

@@ -14,22 +14,9 @@ use shore::Given;
 use shore::Sending;
 use shore::Shore;
 ghost use mathlib.Core.Path.{_≡_};
-ghost use Prim.Native.Nat.{_≤_};
-ghost use Rattle.numbers.specs.Numbers.{valueAt};
 ghost use Rattle.records.specs.Records.{announced};
-ghost use Rattle.records.specs.Desk.{REQUEST-SIZE};
 ghost use Rattle.shore.specs.Shore.{requested, locallyOpened};
 ghost use Rattle.hosting.specs.Hosting.{chargesIn, classIn, versionIn, nameIn, storeless, hosted};
-
-// The number of the two bytes from a place on.
-fn short_at(bytes: &[u8], at: usize) -> u16
-    requires { ⌜ at ≤ REQUEST-SIZE ⌝ }
-    ensures { λ r. ⌜ r ≡ valueAt (now (bytes .entry)) at 2 ⌝ }
-{
-    let start = lists::lesser(at, bytes.len());
-    let end = lists::lesser(at + 2, bytes.len());
-    numbers::number(&bytes[start..end]) as u16
-}
 
 // What a record announces.
 pub fn announces(bytes: &[u8]) -> u32
@@ -44,10 +31,10 @@ fn charges_in(bytes: &[u8]) -> Charges
     ensures { λ r. ⌜ r ≡ chargesIn (now (bytes .entry)) ⌝ }
 {
     Charges {
-        class0: short_at(bytes, LENGTH + 2),
-        class1: short_at(bytes, LENGTH + 4),
-        class2: short_at(bytes, LENGTH + 6),
-        class3: short_at(bytes, LENGTH + 8),
+        class0: numbers::short_at(bytes, LENGTH + 2),
+        class1: numbers::short_at(bytes, LENGTH + 4),
+        class2: numbers::short_at(bytes, LENGTH + 6),
+        class3: numbers::short_at(bytes, LENGTH + 8),
     }
 }
 
@@ -81,7 +68,7 @@ fn requests(shore: Shore, bytes: &[u8], buffer: &mut [u8]) -> Given
     ensures { λ _. ⌜ now (buffer .exit) ≡ requested shore (versionIn (now (bytes .entry))) (chargesIn (now (bytes .entry))) (now (buffer .entry)) .out ⌝ }
 {
     let charges = charges_in(bytes);
-    bare(shore::request(shore, short_at(bytes, LENGTH), charges, buffer))
+    bare(shore::request(shore, numbers::short_at(bytes, LENGTH), charges, buffer))
 }
 
 // A local open.

@@ -15,7 +15,7 @@ use Rattle.paper.specs.Sizes.{STORE}
 use Rattle.lists.specs.Bytes.{laid}
 use Rattle.lists.proofs.Cases.{lt-or-le}
 use Rattle.lists.proofs.Laid.{laid-next, laid-past, back-end, take-least, to-end}
-use Rattle.hosting.proofs.Lent.{drop-least, rest-lent}
+use Rattle.lists.proofs.Lent.{drop-least, rest-lent}
 use Rattle.lines.proofs.Ends.{ends}
 use Rattle.linking.specs.declared.Crossed.{Crossed}
 use Rattle.linking.specs.Linking.{Both, Goes, stays, then, carry, Crosses}

@@ -1,6 +1,7 @@
 pub mod Cases
 pub mod Places
 pub mod Laid
+pub mod Lent
 pub mod Moving
 pub mod Arrays
 pub mod One

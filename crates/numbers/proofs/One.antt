@@ -11,6 +11,7 @@ use Rattle.numbers.proofs.four.Reads as four
 use Rattle.numbers.proofs.joined.Reads as joined
 use Rattle.numbers.proofs.split.Reads as split
 use Rattle.numbers.proofs.number.Reads as number
+use Rattle.numbers.proofs.short_at.Reads as short-at
 use Rattle.numbers.proofs.measure.Reads as measure
 use Rattle.numbers.proofs.put.Reads as put
 use Rattle.numbers.proofs.signed.Reads as signed
@@ -45,6 +46,10 @@ split-one κs a r r′ s s′ p q = same p q
 pub number-one : (κs : _) (a : _) (r r′ : _) (s s′ : _) → number.Post κs a r s → number.Post κs a r′ s′
     → r ≡ r′
 number-one κs a r r′ s s′ p q = same p q
+
+pub short-at-one : (κs : _) (a : _) (r r′ : _) (s s′ : _) → short-at.Post κs a r s → short-at.Post κs a r′ s′
+    → r ≡ r′
+short-at-one κs a r r′ s s′ p q = same p q
 
 pub measure-one : (κs : _) (a : _) (r r′ : _) (s s′ : _) → measure.Post κs a r s → measure.Post κs a r′ s′
     → r ≡ r′

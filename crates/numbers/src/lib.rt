@@ -5,7 +5,7 @@ ghost use mathlib.Core.Path.{_≡_};
 ghost use Prim.Native.Nat.{_<_};
 ghost use lib.ListN.{take};
 ghost use Rattle.lists.specs.Bytes.{laid, zeros};
-ghost use Rattle.numbers.specs.Numbers.{little, bytesOf, valueOf, widthOf, codeFor, narrowest, measuredOf};
+ghost use Rattle.numbers.specs.Numbers.{little, bytesOf, valueOf, valueAt, widthOf, codeFor, narrowest, measuredOf};
 ghost use Rattle.numbers.specs.Status.{signedOf, unsignedOf, statusOf, statusBytes};
 
 // A number that was read, and whether a narrower width would do.
@@ -107,6 +107,15 @@ pub fn number(bytes: &[u8]) -> u32
         }
     }
     value
+}
+
+// The number of the two bytes from a place on. Where the bytes end before, it is that of those that are there.
+pub fn short_at(bytes: &[u8], at: usize) -> u16
+    ensures { λ r. ⌜ r ≡ valueAt (now (bytes .entry)) at 2 ⌝ }
+{
+    let start = lists::lesser(at, bytes.len());
+    let end = lists::lesser(start + 2, bytes.len());
+    number(&bytes[start..end]) as u16
 }
 
 // The number that the bytes make, and whether fewer bytes would do.

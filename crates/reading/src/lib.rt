@@ -19,7 +19,7 @@ ghost use mathlib.Core.Bool.{false, _||_};
 ghost use Prim.Native.Nat.{_+_, _≤_};
 ghost use lib.ListN.{length};
 ghost use Rattle.paper.specs.Rows.{verdictNumber};
-ghost use Rattle.numbers.specs.Numbers.{valueAt, wideAt, measuredAt};
+ghost use Rattle.numbers.specs.Numbers.{wideAt, measuredAt};
 ghost use Rattle.reading.specs.Reading.{readPdu, byCommand, numbered, badLengthWidth, afterNumber};
 ghost use Rattle.reading.specs.Reading.{createRequest, createResponse, dataFirst, closing};
 ghost use Rattle.reading.specs.Reading.{capabilities, byVersion, charged};
@@ -97,14 +97,6 @@ fn number_at(pdu: &[u8], at: usize, n: usize) -> Measured
     ensures { λ r. ⌜ r ≡ measuredAt (now (pdu .entry)) at n ⌝ }
 {
     numbers::measure(&pdu[at..at + n])
-}
-
-// The number of the two bytes from a place on.
-fn short_at(pdu: &[u8], at: usize) -> u16
-    requires { ⌜ at + 2 ≤ length (now pdu) ⌝ }
-    ensures { λ r. ⌜ r ≡ valueAt (now (pdu .entry)) at 2 ⌝ }
-{
-    numbers::number(&pdu[at..at + 2]) as u16
 }
 
 // A refusal, in which nothing is loose.
@@ -291,10 +283,10 @@ fn charged(pdu: &[u8], version: u16) -> Pdu
         return Pdu::Refused(Refusal::BadField);
     }
     let charges = Charges {
-        class0: short_at(pdu, 4),
-        class1: short_at(pdu, 6),
-        class2: short_at(pdu, 8),
-        class3: short_at(pdu, 10),
+        class0: numbers::short_at(pdu, 4),
+        class1: numbers::short_at(pdu, 6),
+        class2: numbers::short_at(pdu, 8),
+        class3: numbers::short_at(pdu, 10),
     };
     Pdu::CapsRequest { version, charges }
 }
@@ -333,7 +325,7 @@ fn capabilities(pdu: &[u8], from_server: bool, cb_id: u8) -> Pdu
     if pdu.len() < 4 {
         return Pdu::Refused(Refusal::CutShort);
     }
-    by_version(pdu, from_server, short_at(pdu, 2))
+    by_version(pdu, from_server, numbers::short_at(pdu, 2))
 }
 
 fn by_command(pdu: &[u8], from_server: bool, cmd: u8, middle: u8, cb_id: u8) -> Found

@@ -7,6 +7,7 @@ use Prim.Native.Nat.{ℕ, zero, suc, _+_, _-_, _≤_, _<_, min}
 use native.Mathlib.Omega.{arith}
 use lib.ListN.{length, take, drop, getD, length-take, length-drop}
 use Rattle.lists.proofs.Laid.{from-to, take-least}
+use Rattle.lists.proofs.Lent.{drop-least}
 use Rattle.numbers.specs.Status.{unsignedOf}
 use Rattle.lines.specs.Decimal.{field}
 use Rattle.lines.specs.Lines.{SPACE}
@@ -49,14 +50,6 @@ pub so-written : (pdu out after : List ℕ) (read : Pdu) (r : Written) (bad : Bo
     → (r ≡ answerTo (againOf pdu read) out) × (after ≡ leftBy (againOf pdu read) out)
 unfolding answerTo leftBy
 so-written pdu out after read r bad bytes p q e = rw e (p, rw p at q)
-
--- from a place on, or from the end where the list ends before
-drop-least : (n : ℕ) (l : List ℕ) → drop (min n (length l)) l ≡ drop n l
-drop-least zero l = let e : min 0 (length l) ≡ 0 = omega arith in rw e
-drop-least (suc n) [] = let e : min (suc n) 0 ≡ 0 = omega arith in rw e
-drop-least (suc n) (x ∷ l) =
-    let e : min (suc n) (suc (length l)) ≡ suc (min n (length l)) = omega arith in
-    rw (e, drop-least n l)
 
 -- bytes lent from a place on, as far as there are any, are what `take` and `drop` give
 pub part-at : (l : List ℕ) (a n : ℕ) {at len : ℕ} → at ≡ min a (length l) → len ≡ min n (length l - at)

@@ -9,7 +9,7 @@ use lib.Dec.{eqb}
 use lib.ListN.{length, take, drop, getD}
 use Rattle.lists.proofs.Cases.{true-not-false, and-false}
 use Rattle.records.specs.Records.{LENGTH, pduIn}
-use Rattle.hosting.proofs.Lent.{rest-lent}
+use Rattle.lists.proofs.Lent.{rest-lent}
 use Rattle.walking.specs.declared.Told.{Told}
 use Rattle.walking.specs.Walking.{hasCloses, isClose}
 

@@ -1,7 +1,7 @@
 -- `hosting::class_in` meets its contract: a class that isn't there is 0.
 use mathlib.Core.Path.{refl}
 use denote.Ref.{now}
-use Rattle.hosting.proofs.Lent.{none-there}
+use Rattle.lists.proofs.Lent.{none-there}
 use Rattle.hosting.specs.Hosting.{classIn}
 use borrow.Author.Needs.{needs}
 use Rattle.hosting.proofs.class_in.Statement.{statement}

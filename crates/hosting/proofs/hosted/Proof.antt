@@ -4,7 +4,7 @@ use denote.Ref.{now}
 use borrow.Author.Tests.{eq-eqb, ne-eqb}
 use Rattle.numbers.specs.Numbers.{valueOf}
 use Rattle.records.specs.Records.{pduIn}
-use Rattle.hosting.proofs.Lent.{rest-lent}
+use Rattle.lists.proofs.Lent.{rest-lent}
 use Rattle.hosting.specs.Hosting.{hosted}
 use borrow.Author.Needs.{needs}
 use Rattle.hosting.proofs.hosted.Statement.{statement}

@@ -1,6 +1,6 @@
 -- `hosting::opens` meets its contract: the name is what stands behind its length.
 use denote.Ref.{now}
-use Rattle.hosting.proofs.Lent.{rest-lent}
+use Rattle.lists.proofs.Lent.{rest-lent}
 use borrow.Author.Needs.{needs}
 use Rattle.hosting.proofs.opens.Statement.{statement}
 use Rattle.hosting.proofs.opens.Tie as tie

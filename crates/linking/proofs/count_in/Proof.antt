@@ -1,7 +1,7 @@
 -- `linking::count_in` meets its contract: no bytes count nothing.
 use mathlib.Core.Path.{refl}
 use denote.Ref.{now}
-use Rattle.hosting.proofs.Lent.{none-there}
+use Rattle.lists.proofs.Lent.{none-there}
 use Rattle.linking.specs.Linking.{countIn}
 use borrow.Author.Needs.{needs}
 use native.Mathlib.Omega.{arith}

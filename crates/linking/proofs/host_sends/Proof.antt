@@ -4,7 +4,7 @@ use Prim.Native.Nat.{ℕ, _+_, min}
 use denote.Ref.{now}
 use Rattle.numbers.specs.Numbers.{valueOf}
 use Rattle.linking.specs.Linking.{messageIn, hostSends}
-use Rattle.hosting.proofs.Lent.{rest-lent, size-lent}
+use Rattle.lists.proofs.Lent.{rest-lent, size-lent}
 use borrow.Author.Needs.{needs}
 use Rattle.linking.proofs.host_sends.Statement.{statement}
 use Rattle.linking.proofs.host_sends.Tie as tie

@@ -1,7 +1,7 @@
 -- `linking::lead_of` meets its contract: no bytes are led by 0.
 use mathlib.Core.Path.{refl}
 use denote.Ref.{now}
-use Rattle.hosting.proofs.Lent.{none-there}
+use Rattle.lists.proofs.Lent.{none-there}
 use Rattle.records.specs.Desk.{leading}
 use borrow.Author.Needs.{needs}
 use native.Mathlib.Omega.{arith}

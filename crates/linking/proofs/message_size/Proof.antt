@@ -3,7 +3,7 @@ use mathlib.Core.Path.{ap, _∙_}
 use denote.Ref.{now}
 use Rattle.numbers.specs.Numbers.{valueOf}
 use Rattle.records.specs.Desk.{messageLength}
-use Rattle.hosting.proofs.Lent.{part-lent}
+use Rattle.lists.proofs.Lent.{part-lent}
 use borrow.Author.Needs.{needs}
 use Rattle.linking.proofs.message_size.Statement.{statement}
 use Rattle.linking.proofs.message_size.Tie as tie

@@ -5,7 +5,7 @@ use borrow.Author.Tests.{eq-eqb, ne-eqb, not-true, not-false}
 use Rattle.paper.specs.Sizes.{MESSAGE-MAX}
 use Rattle.numbers.specs.Numbers.{valueOf}
 use Rattle.lines.specs.Lines.{MESSAGE-LINE-MAX}
-use Rattle.hosting.proofs.Lent.{rest-lent}
+use Rattle.lists.proofs.Lent.{rest-lent}
 use Rattle.linking.specs.Linking.{CALL-MAX, STEP-MAX, noRecord, linkStep}
 use Rattle.linking.proofs.Crossing.{wider}
 use borrow.Author.Needs.{needs}

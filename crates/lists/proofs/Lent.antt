@@ -1,4 +1,4 @@
--- Parts of a record, lent from its bytes: those that it doesn't have are left out.
+-- Parts of a list, lent from a place on: what the list doesn't have is left out.
 -- Assumes nothing.
 use mathlib.Core.Path.{_≡_, refl, _∙_}
 use mathlib.Core.Logic.{⊎-elim}
