@@ -19,7 +19,8 @@ use Rattle.rules.specs.declared.Broken.{Broken}
 use Rattle.rules.specs.declared.Broken.the-variants.{NoRule, Broke}
 use Rattle.rules.specs.Rules.{theRules, firstOf}
 use Rattle.records.specs.Records.{PLACES}
-use Rattle.records.specs.Pdus.{Stood, stoodAfter, afterReads}
+use Rattle.records.specs.Items.{Stood}
+use Rattle.records.specs.Pdus.{stoodAfter, afterReads}
 use Rattle.cause.specs.declared.Note.{Note}
 use Rattle.cause.specs.declared.Cause.{Cause}
 use Rattle.cause.specs.declared.Cause.the-variants.{NoCause, SpoiledBy, ByRule}

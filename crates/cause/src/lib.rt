@@ -28,7 +28,8 @@ ghost use Rattle.steps.specs.Rows.{verdictOf};
 ghost use Rattle.rules.specs.Rules.{theRules, firstOf};
 ghost use Rattle.records.specs.Records.{wholeOf};
 ghost use Rattle.records.specs.Walks.{recordsOf, sizeOf, restOf};
-ghost use Rattle.records.specs.Pdus.{pdusIn, afterPdus};
+ghost use Rattle.records.specs.Items.{afterItems};
+ghost use Rattle.records.specs.Pdus.{pdusIn};
 ghost use Rattle.cause.specs.Notes.{noteAt, turned, notedFrom, notesAfter};
 ghost use Rattle.cause.specs.Cause.{causeNamed, causeBy, causeOf, saidBy, courseOn, wayOf, wayAfter, startCourse, turnedTo, standOf};
 ghost use Rattle.cause.specs.Why.{isDigit, soughtBy, soughtIn, WHY-MAX, whyLine, saidLine};
@@ -298,9 +299,9 @@ fn step(sought: u64, course: Course, store: &mut [u8], list: &[u8], pdu: &[u8]) 
 
 // Walks through the whole records at the front of the input.
 fn walk(sought: u64, course: Course, store: &mut [u8], list: &[u8], input: &[u8]) -> Walked
-    ensures { λ r. ⌜ r .course ≡ afterPdus (wayAfter sought (now (list .entry)))
+    ensures { λ r. ⌜ r .course ≡ afterItems (wayAfter sought (now (list .entry)))
         (wayOf course (now (store .entry))) (pdusIn (now (input .entry))) .course ⌝ }
-    ensures { λ _. ⌜ now (store .exit) ≡ afterPdus (wayAfter sought (now (list .entry)))
+    ensures { λ _. ⌜ now (store .exit) ≡ afterItems (wayAfter sought (now (list .entry)))
         (wayOf course (now (store .entry))) (pdusIn (now (input .entry))) .store ⌝ }
     ensures { λ r. ⌜ (r .taken ≡ sizeOf (recordsOf wholeOf (now (input .entry)))) × (r .taken ≤ length (now (input .entry))) ⌝ }
 {

@@ -12,6 +12,7 @@ use Rattle.lines.specs.Decimal.{field}
 use Rattle.lines.specs.Lines.{SPACE, LF, answerFields, lineOf}
 use Rattle.records.specs.Records.{PLACES, pduIn, wholeOf}
 use Rattle.records.specs.Walks.{Program, recordsOf, afterAll}
+use Rattle.records.specs.Items.{itemsIn}
 use Rattle.records.specs.Pdus.{pdusIn}
 use Rattle.walking.specs.declared.Job.the-variants.{Client}
 use Rattle.walking.specs.declared.Told.the-variants.{Lines}
@@ -63,7 +64,7 @@ pub the-walkers : (list input : List ℕ) (place : ℕ) → place < length (pdus
     (afterAll (program (Client Lines) list) (startWalk (Client Lines)) (take place (recordsOf wholeOf input)))
     (getD (recordsOf wholeOf input) place [])
     ≡ field place SPACE ++ answerFields (answerAt list (pdusIn input) place) (sentAt list (pdusIn input) place) LF
-unfolding pdusIn
+unfolding itemsIn
 the-walkers list input place h k =
     let records = recordsOf wholeOf input in
     let inside : place ≤ length records = omega (arith, length-map records pduIn) in

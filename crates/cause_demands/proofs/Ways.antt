@@ -10,8 +10,8 @@ use lib.ListN.{length, take, drop, take-append-drop}
 use lib.Seq.{take-suc, take-all}
 use Rattle.channel.specs.declared.Answer.{Answer}
 use Rattle.records.specs.Records.{PLACES}
-use Rattle.records.specs.Pdus.{afterPdus}
-use Rattle.records.proofs.Pdus.{over-both}
+use Rattle.records.specs.Items.{afterItems}
+use Rattle.records.proofs.Items.{over-both}
 use Rattle.cause.specs.declared.Cause.{Cause}
 use Rattle.cause.specs.declared.Said.the-variants.{NotYet, Of}
 use Rattle.cause.specs.Cause.{causeOf, Way, saidBy, courseOn, wayAfter, startCourse, startWay}
@@ -22,26 +22,26 @@ use Rattle.cause_demands.proofs.Stories.{notesAt}
 
 module _ {S : Type 0} (step : S → List ℕ → S) where
   pub one-more : (s : S) (pdus : List (List ℕ)) (i : ℕ) → i < length pdus
-      → afterPdus step s (take (suc i) pdus) ≡ step (afterPdus step s (take i pdus)) (pduAt pdus i)
-  unfolding afterPdus
-  one-more s pdus i h = ap (afterPdus step s) (take-suc pdus i [] h) ∙ over-both step s (take i pdus) (pduAt pdus i ∷ [])
+      → afterItems step s (take (suc i) pdus) ≡ step (afterItems step s (take i pdus)) (pduAt pdus i)
+  unfolding afterItems
+  one-more s pdus i h = ap (afterItems step s) (take-suc pdus i [] h) ∙ over-both step s (take i pdus) (pduAt pdus i ∷ [])
 
-  pub and-the-rest : (s : S) (pdus : List (List ℕ)) (i : ℕ) → afterPdus step s pdus ≡ afterPdus step (afterPdus step s (take i pdus)) (drop i pdus)
-  and-the-rest s pdus i = ap (afterPdus step s) (sym (take-append-drop i pdus)) ∙ over-both step s (take i pdus) (drop i pdus)
+  pub and-the-rest : (s : S) (pdus : List (List ℕ)) (i : ℕ) → afterItems step s pdus ≡ afterItems step (afterItems step s (take i pdus)) (drop i pdus)
+  and-the-rest s pdus i = ap (afterItems step s) (sym (take-append-drop i pdus)) ∙ over-both step s (take i pdus) (drop i pdus)
 
 -- ---- what is said stays
 
 stays-said :
     (sought : ℕ) (list : List ℕ) (w : Way) (pdus : List (List ℕ)) (answer : Answer) (sent : ℕ) (cause : Cause)
-    → w .course .said ≡ Of answer sent cause → afterPdus (wayAfter sought list) w pdus .course .said ≡ Of answer sent cause
-unfolding afterPdus wayAfter courseOn saidBy
+    → w .course .said ≡ Of answer sent cause → afterItems (wayAfter sought list) w pdus .course .said ≡ Of answer sent cause
+unfolding afterItems wayAfter courseOn saidBy
 stays-said sought list w [] answer sent cause h = h
 stays-said sought list w (pdu ∷ pdus) answer sent cause h =
     stays-said sought list (wayAfter sought list w pdu) pdus answer sent cause (rw h refl)
 
 module _ (sought : ℕ) (list : List ℕ) (pdus : List (List ℕ)) (counted : sought < PLACES) where
   abbrev after : ℕ → Way
-  after i = afterPdus (wayAfter sought list) startWay (take i pdus)
+  after i = afterItems (wayAfter sought list) startWay (take i pdus)
 
   -- where the search should be before the PDU at place i
   abbrev stood : ℕ → Way
@@ -63,7 +63,7 @@ module _ (sought : ℕ) (list : List ℕ) (pdus : List (List ℕ)) (counted : so
       rw (other, next) refl
 
   is-there : (i : ℕ) → i ≤ length pdus → i ≤ sought → after i ≡ stood i
-  unfolding afterPdus startCourse before notesAt
+  unfolding afterItems startCourse before notesAt
   is-there zero h k = refl
   is-there (suc i) h k =
       one-more (wayAfter sought list) startWay pdus i h
@@ -74,7 +74,7 @@ module _ (sought : ℕ) (list : List ℕ) (pdus : List (List ℕ)) (counted : so
   said-at = rw (eq-eqb sought sought refl) refl
 
   pub says : sought < length pdus
-      → afterPdus (wayAfter sought list) startWay pdus .course .said ≡ Of (answerAt list pdus sought) (sentAt list pdus sought) (causeAt sought)
+      → afterItems (wayAfter sought list) startWay pdus .course .said ≡ Of (answerAt list pdus sought) (sentAt list pdus sought) (causeAt sought)
   says h =
       ap (λ (w : Way). w .course .said) (and-the-rest (wayAfter sought list) startWay pdus (suc sought))
       ∙ stays-said sought list (after (suc sought)) (drop (suc sought) pdus) _ _ _
@@ -82,8 +82,8 @@ module _ (sought : ℕ) (list : List ℕ) (pdus : List (List ℕ)) (counted : so
       (one-more (wayAfter sought list) startWay pdus sought h
       ∙ ap (λ (w : Way). wayAfter sought list w (pduAt pdus sought)) (is-there sought (omega arith) (omega arith))) ∙ said-at)
 
-  pub says-nothing : length pdus ≤ sought → afterPdus (wayAfter sought list) startWay pdus .course .said ≡ NotYet
+  pub says-nothing : length pdus ≤ sought → afterItems (wayAfter sought list) startWay pdus .course .said ≡ NotYet
   says-nothing h =
       ap (λ (w : Way). w .course .said)
-      (ap (afterPdus (wayAfter sought list) startWay) (sym (take-all (length pdus) pdus (omega arith)))
+      (ap (afterItems (wayAfter sought list) startWay) (sym (take-all (length pdus) pdus (omega arith)))
       ∙ is-there (length pdus) (omega arith) h)

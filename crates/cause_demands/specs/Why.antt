@@ -32,7 +32,8 @@ use Rattle.rules.specs.declared.Broken.the-variants.{Broke}
 use Rattle.rules.specs.Rules.{refusalOf, readingRules, theRules, firstOf, verdictBy}
 use Rattle.records.specs.Records.{PLACES, wholeOf}
 use Rattle.records.specs.Walks.{recordsOf, afterAll}
-use Rattle.records.specs.Pdus.{pdusIn, allOf}
+use Rattle.records.specs.Items.{allOf}
+use Rattle.records.specs.Pdus.{pdusIn}
 use Rattle.walking.specs.declared.Job.the-variants.{Client}
 use Rattle.walking.specs.declared.Told.the-variants.{Lines}
 use Rattle.walking.specs.Walking.{program, startWalk, textOf}

@@ -11,8 +11,11 @@ use lib.ListN.{length, take, drop, length-drop, length-append, drop-of-length-le
 use lib.Seq.{drop-append-le, take-append-le, take-all, take-at, drop-at}
 use Rattle.lists.proofs.Cases.{choice, lt-or-le}
 use Rattle.numbers.specs.Numbers.{valueAt}
-use Rattle.records.specs.Pdus.{allOf}
-use Rattle.records.proofs.Pdus.{none-at-first, however-cut}
+use Rattle.records.specs.Items.{allOf}
+use Rattle.records.specs.Records.{pduIn}
+use Rattle.records.proofs.Records.{whole-framing}
+use Rattle.records.proofs.Items.{however-cut}
+use Rattle.records.proofs.Pdus.{none-at-first}
 use Rattle.judge.specs.Judge.{beginning, courseAfter}
 use Rattle.judge.specs.Sender.{NUMBER, HEAD, headNeeds, numberIn, messageIn}
 use Rattle.judge.specs.Sender.{standOf, turned, senderSays, inPieces, saidAtEnd}
@@ -22,7 +25,7 @@ use Rattle.judge.specs.Sender.{standOf, turned, senderSays, inPieces, sa
 -- however the input is cut into reads, the run stands where one turn over all of it would
 pub stands : (n : ℕ) (message : List ℕ) (pieces : List (List ℕ)) → inPieces n message pieces ≡ turned n message beginning (allOf pieces)
 unfolding inPieces turned
-stands n message pieces = ap standOf (however-cut (courseAfter n message) beginning [] pieces none-at-first)
+stands n message pieces = ap standOf (however-cut whole-framing pduIn (courseAfter n message) beginning [] pieces none-at-first)
 
 -- ---- the program's line
 

@@ -21,7 +21,7 @@ use Rattle.channel.specs.declared.Took.{Took}
 use Rattle.channel.specs.declared.Took.the-variants.{Bars, Spoils, Holds, Finishes}
 use Rattle.channel.specs.Stages.{took}
 use Rattle.records.specs.Records.{PLACES}
-use Rattle.records.specs.Pdus.{afterPdus}
+use Rattle.records.specs.Items.{afterItems}
 use Rattle.judge.specs.declared.Reason.the-variants.{Reading, Kind, OtherChannel, Steps, Before}
 use Rattle.judge.specs.declared.Course.{Course}
 use Rattle.judge.specs.declared.Course.the-variants.{Going, Handed, Faulty}
@@ -74,7 +74,7 @@ unfoldable pub beginning : Course
 beginning = Going 0 Idle true
 
 abbrev pub courseOver : ℕ → List ℕ → Course → List (List ℕ) → Course
-courseOver n message course pdus = afterPdus (courseAfter n message) course pdus
+courseOver n message course pdus = afterItems (courseAfter n message) course pdus
 
 -- "A no names the first PDU [..]; with none, that the list ended early, or else that the bytes differ."
 unfoldable pub judgementOn : Course → Judgement

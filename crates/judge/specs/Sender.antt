@@ -7,7 +7,8 @@ use lib.ListN.{length, take, drop}
 use Rattle.numbers.specs.Numbers.{valueOf, valueAt}
 use Rattle.lines.specs.Decimal.{field}
 use Rattle.lines.specs.Lines.{SPACE}
-use Rattle.records.specs.Pdus.{Stood, stoodAfter, afterReads}
+use Rattle.records.specs.Items.{Stood}
+use Rattle.records.specs.Pdus.{stoodAfter, afterReads}
 use Rattle.judge.specs.declared.Reason.{Reason}
 use Rattle.judge.specs.declared.Reason.the-variants.{Reading, Kind, OtherChannel, Steps, Before}
 use Rattle.judge.specs.declared.Course.{Course}

@@ -22,7 +22,7 @@ use Rattle.judge.specs.declared.Course.{Course}
 use Rattle.judge.specs.declared.Course.the-variants.{Going, Handed, Faulty}
 use Rattle.judge.specs.declared.Judgement.{Judgement}
 use Rattle.judge.specs.declared.Judgement.the-variants.{Yes, No, Early, Differs}
-use Rattle.records.specs.Pdus.{afterPdus}
+use Rattle.records.specs.Items.{afterItems}
 use Rattle.judge.specs.Judge.{courseAfter, courseOver, judgementOn}
 use Rattle.judge_demands.specs.Received.{Receives, no-call, one-call, HandsUp, at-last, held-first, AllHeld, no-more, held-too}
 use Rattle.judge_demands.specs.Received.{isMessage, holds, FIVE, earlier, NoneOf, FirstFault, here, later}
@@ -101,7 +101,7 @@ module _ (n : ℕ) (st : State) (c : Call) where
 
 -- a fault stays
 faulty : (n : ℕ) (m : List ℕ) (place : ℕ) (why : Reason) (pdus : List (List ℕ)) → courseOver n m (Faulty place why) pdus ≡ Faulty place why
-unfolding afterPdus courseAfter
+unfolding afterItems courseAfter
 faulty n m place why [] = refl
 faulty n m place why (pdu ∷ pdus) = faulty n m place why pdus
 
@@ -183,7 +183,7 @@ handed :
     → told st c .answer ≡ Message n (length got) → told st c .message ≡ got ∷ [] → Until n m (at % PLACES) stage same st c pdu Before
     → (cs : List Call) (pdus : List (List ℕ)) → Receives cs pdus
     → Verdict n m at st (c ∷ cs) (pdu ∷ pdus) (judgementFrom n m (Handed (at % PLACES) (sameBytes m got)) pdus)
-unfolding afterPdus courseAfter judgementOn holds isMessage
+unfolding afterItems courseAfter judgementOn holds isMessage
 handed n m at stage same st c pdu got short e b fair cs pdus no-call =
     ends-with n m at st c [] pdu [] got short e b (five (holds n pdu [] (told st c .answer)) (fair []) (and-false (isMessage (told st c .answer)))) _ refl
 handed n m at stage same st c pdu got short e b fair cs pdus (one-call d list next ds nexts asks rest) =
@@ -209,7 +209,7 @@ one-on n m at stage same st c pdu cs pdus r behind (hands got q e b fair short) 
 pub verdict :
     (n : ℕ) (m : List ℕ) (at : ℕ) (stage : Stage) (same : Bool) (st : State) → Stands n m stage same st
     → (cs : List Call) (pdus : List (List ℕ)) → Receives cs pdus → Verdict n m at st cs pdus (judgementFrom n m (Going (at % PLACES) stage same) pdus)
-unfolding afterPdus judgementOn
+unfolding afterItems judgementOn
 verdict n m at stage same st s cs pdus no-call = record {
   which = held (no-more st);
   up-says = λ got u. absurd (no-up got u);

@@ -2,7 +2,7 @@
 -- `receive` answers, which specs/Received says.
 -- Assumes nothing.
 use mathlib.Core.Path.{refl}
-use Rattle.records.specs.Pdus.{afterPdus}
+use Rattle.records.specs.Items.{afterItems}
 use Rattle.judge.specs.Judge.{judgementOn, beginning, judged}
 use Rattle.judge.proofs.Pieces as pieces
 use Rattle.demands.proofs.Cut as cutting
@@ -32,7 +32,7 @@ no-names-the-first =
 
 -- "with none, that the list ended early, or else that the bytes differ"
 pub early-or-other-bytes : EarlyOrOtherBytes
-unfolding judged afterPdus beginning judgementOn
+unfolding judged afterItems beginning judgementOn
 early-or-other-bytes =
     record {
       early-is-held = λ n m pdus e st o cs r. verdicts.is-held n m pdus st o cs r e;

@@ -12,7 +12,7 @@ use Rattle.demands.specs.Cut.{Cut, CutByUs, CutFromC, NoneRefused}
 use Rattle.judge.specs.declared.Reason.{Reason}
 use Rattle.judge.specs.declared.Judgement.the-variants.{Yes, No, Early, Differs}
 use Rattle.judge.specs.Judge.{beginning, judged}
-use Rattle.records.specs.Pdus.{allOf}
+use Rattle.records.specs.Items.{allOf}
 use Rattle.judge.specs.Sender.{headNeeds, turned, senderSays, inPieces, saidAtEnd}
 use Rattle.judge_demands.specs.Received.{OpenAndIdle, Receives, HandsUp, AllHeld, FirstFault}
 

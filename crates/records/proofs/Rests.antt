@@ -42,7 +42,7 @@ module _ {extent : List ℕ → ℕ} (f : Framing extent) where
   -- ---- record by record
 
   -- a law of inputs that holds where no whole record stands, and of an input where it holds of what is behind the first one
-  by-records :
+  pub by-records :
       (P : List ℕ → Type 0) → ((input : List ℕ) → extent input ≡ 0 → P input)
       → ((input : List ℕ) → 0 < extent input → P (behind input) → P input) → (input : List ℕ) → P input
   by-records P none some input = go (length input) input (omega arith)
@@ -54,6 +54,12 @@ module _ {extent : List ℕ → ℕ} (f : Framing extent) where
           (λ (one : 0 < extent input). some input one (go k (behind input) (rw length-drop (omega arith))))
           (λ (no : extent input ≤ 0). none input (omega arith))
           (lt-or-le 0 (extent input))
+
+  -- the records' bytes are there
+  pub size-within : (input : List ℕ) → sizeOf (recordsOf extent input) ≤ length input
+  size-within =
+      by-records (λ input. sizeOf (recordsOf extent input) ≤ length input) (λ input no. rw (size-none extent input no) (omega arith))
+      (λ input one later. rw (size-first input one) (omega (arith, later, length-drop (extent input) input, f .fits input)))
 
   -- no whole record is left
   pub rest-has-none : (input : List ℕ) → extent (restOf extent input) ≡ 0

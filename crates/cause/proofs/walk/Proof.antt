@@ -5,9 +5,10 @@ use mathlib.Core.List.{List}
 use Prim.Native.Nat.{ℕ, _+_, _-_, _≤_, _<_}
 use lib.ListN.{length, drop, length-drop}
 use Rattle.lists.proofs.Laid.{to-end}
-use Rattle.records.specs.Records.{LENGTH, wholeOf}
-use Rattle.records.proofs.Records.{whole-fits}
-use Rattle.records.proofs.Pdus.{Left, goes-on, pdu-lent, ends}
+use Rattle.records.specs.Records.{LENGTH, wholeOf, pduIn}
+use Rattle.records.proofs.Records.{whole-fits, whole-framing}
+use Rattle.records.proofs.Items.{Left, goes-on, ends}
+use Rattle.records.proofs.Pdus.{pdu-lent}
 use Rattle.cause.specs.declared.Course.{Course}
 use Rattle.cause.specs.Cause.{Way, wayOf, wayAfter}
 use borrow.Author.Needs.{needs}
@@ -23,7 +24,7 @@ store-of w = w .store
 
 abbrev Inv-loop : tie.InvT-loop
 Inv-loop sought store₀ list input next₀ at₀ store next at =
-    (length store ≡ length store₀) × Left (wayAfter sought list) (wayOf next₀ store₀) input (wayOf next store) at
+    (length store ≡ length store₀) × Left whole-framing pduIn (wayAfter sought list) (wayOf next₀ store₀) input (wayOf next store) at
 
 abbrev μ-loop : tie.MeasureT-loop
 μ-loop sought store₀ list input next₀ at₀ store next at = length input - at
@@ -88,7 +89,7 @@ loop-again c =
     let front = in-front found in
     let pdu = pdu-lent input (l .at) n (front .0) (omega (arith, front)) in
     let did = ap (after (wayOf (l .next) (l .store))) pdu in
-    let on = goes-on after (wayOf (a .course) (now (a .store))) input (wayOf (l .next) (l .store)) (l .at) n (l .inv .1) (front .0)
+    let on = goes-on whole-framing pduIn after (wayOf (a .course) (now (a .store))) input (wayOf (l .next) (l .store)) (l .at) n (l .inv .1) (front .0)
     (omega (arith, front)) (front .1 .1) in
     (search needs, rw (called .step .ensures .0 ∙ ap course-of did, called .step .ensures .1 ∙ ap store-of did) on)
 
@@ -98,7 +99,7 @@ returns c =
     let a = c .before .before .before .before .before .args in
     let input = now (a .input) in
     let none : wholeOf (drop (l .at) input) ≡ 0 = omega (arith, whole-fits (drop (l .at) input) .0, length-drop (l .at) input, c .loop-test .left) in
-    let end = ends (wayAfter (a .sought) (now (a .list))) (wayOf (a .course) (now (a .store))) input (wayOf (l .next) (l .store)) (l .at) (l .inv .1) none in
+    let end = ends whole-framing pduIn (wayAfter (a .sought) (now (a .list))) (wayOf (a .course) (now (a .store))) input (wayOf (l .next) (l .store)) (l .at) (l .inv .1) none in
     (ap course-of (end .0), (ap store-of (end .0), end .1))
 
 returns-2 : tie.Need-returns-2 Inv-loop μ-loop
@@ -108,7 +109,7 @@ returns-2 c =
     let a = at-loop .before .before .before .before .args in
     let input = now (a .input) in
     let none = sym (c .before .whole .ensures ∙ ap wholeOf (to-end input (l .at))) ∙ c .if1 .taken in
-    let end = ends (wayAfter (a .sought) (now (a .list))) (wayOf (a .course) (now (a .store))) input (wayOf (l .next) (l .store)) (l .at) (l .inv .1) none in
+    let end = ends whole-framing pduIn (wayAfter (a .sought) (now (a .list))) (wayOf (a .course) (now (a .store))) input (wayOf (l .next) (l .store)) (l .at) (l .inv .1) none in
     (ap course-of (end .0), (ap store-of (end .0), end .1))
 
 same-length : tie.Need-same-length Inv-loop μ-loop

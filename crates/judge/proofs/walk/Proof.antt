@@ -4,9 +4,10 @@ use denote.Ref.{now}
 use Prim.Native.Nat.{_+_, _-_, _≤_, _<_}
 use lib.ListN.{length, drop, length-drop}
 use Rattle.lists.proofs.Laid.{to-end}
-use Rattle.records.specs.Records.{LENGTH, wholeOf}
-use Rattle.records.proofs.Records.{whole-fits}
-use Rattle.records.proofs.Pdus.{Left, goes-on, pdu-lent, ends}
+use Rattle.records.specs.Records.{LENGTH, wholeOf, pduIn}
+use Rattle.records.proofs.Records.{whole-fits, whole-framing}
+use Rattle.records.proofs.Items.{Left, goes-on, ends}
+use Rattle.records.proofs.Pdus.{pdu-lent}
 use Rattle.judge.specs.Judge.{courseAfter}
 use borrow.Author.Needs.{needs}
 use native.Mathlib.Omega.{arith}
@@ -14,7 +15,7 @@ use Rattle.judge.proofs.walk.Statement.{statement}
 use Rattle.judge.proofs.walk.Tie as tie
 
 abbrev Inv-loop : tie.InvT-loop
-Inv-loop number message input next₀ at₀ next at = Left (courseAfter number message) next₀ input next at
+Inv-loop number message input next₀ at₀ next at = Left whole-framing pduIn (courseAfter number message) next₀ input next at
 
 abbrev μ-loop : tie.MeasureT-loop
 μ-loop number message input next₀ at₀ next at = length input - at
@@ -84,7 +85,7 @@ loop-again c =
     let front = in-front found in
     let pdu = pdu-lent input (l .at) n (front .0) (omega (arith, front)) in
     rw (c .judge .ensures ∙ ap (judge (l .next)) pdu)
-    (goes-on judge (a .course) input (l .next) (l .at) n (l .inv) (front .0) (omega (arith, front)) (front .1 .1))
+    (goes-on whole-framing pduIn judge (a .course) input (l .next) (l .at) n (l .inv) (front .0) (omega (arith, front)) (front .1 .1))
 
 returns : tie.Need-returns Inv-loop μ-loop
 returns c =
@@ -92,7 +93,7 @@ returns c =
     let a = c .before .before .before .before .args in
     let input = now (a .input) in
     let none : wholeOf (drop (l .at) input) ≡ 0 = omega (arith, whole-fits (drop (l .at) input) .0, length-drop (l .at) input, c .loop-test .left) in
-    ends (courseAfter (a .number) (now (a .message))) (a .course) input (l .next) (l .at) (l .inv) none
+    ends whole-framing pduIn (courseAfter (a .number) (now (a .message))) (a .course) input (l .next) (l .at) (l .inv) none
 
 returns-2 : tie.Need-returns-2 Inv-loop μ-loop
 returns-2 c =
@@ -101,7 +102,7 @@ returns-2 c =
     let a = at-loop .before .before .before .args in
     let input = now (a .input) in
     let none = sym (c .before .whole .ensures ∙ ap wholeOf (to-end input (l .at))) ∙ c .if1 .taken in
-    ends (courseAfter (a .number) (now (a .message))) (a .course) input (l .next) (l .at) (l .inv) none
+    ends whole-framing pduIn (courseAfter (a .number) (now (a .message))) (a .course) input (l .next) (l .at) (l .inv) none
 
 pub walk-spec : {M : Type 1} → statement M
 walk-spec =
