@@ -7,7 +7,7 @@ use lib.ListN.{getD}
 use Rattle.paper.specs.declared.Refusal.{Refusal}
 use Rattle.paper.specs.declared.Refusal.the-variants.{BadCall, CutShort, TooLong, NoCommand, BadField, BadList, WrongTime, NotOpen}
 use Rattle.paper.specs.declared.Refusal.the-variants.{AlreadyOpen, StillJoining, OverLimit, PastLength, IsSpoiled, NoStart}
-use Rattle.paper.specs.declared.Refusal.the-variants.{AllTaken, NotAwaited, Loose}
+use Rattle.paper.specs.declared.Refusal.the-variants.{AllTaken, NotAwaited, NotSets, Loose}
 use Rattle.channel.specs.declared.Decline.{Decline}
 use Rattle.channel.specs.declared.Decline.the-variants.{Unlisted, Full}
 use Rattle.channel.specs.declared.Concern.the-variants.{NoChannel, Channel}
@@ -34,12 +34,12 @@ sentIn p = p / 562949953421312 % 2048
 unfoldable pub wordIn : ℕ → ℕ
 wordIn p = p / 1152921504606846976
 
--- the refusal with a number of the paper: 17 has no refusal of these ends
+-- the refusal with a number of the paper
 unfoldable pub refusalOf : ℕ → Refusal
 refusalOf n =
     getD
     (BadCall ∷ CutShort ∷ TooLong ∷ NoCommand ∷ BadField ∷ BadList ∷ WrongTime ∷ NotOpen ∷ AlreadyOpen ∷ StillJoining ∷ OverLimit ∷ PastLength
-    ∷ IsSpoiled ∷ NoStart ∷ AllTaken ∷ NotAwaited ∷ BadCall ∷ Loose ∷ [])
+    ∷ IsSpoiled ∷ NoStart ∷ AllTaken ∷ NotAwaited ∷ NotSets ∷ Loose ∷ [])
     (n - 1) BadCall
 
 unfoldable pub declineOf : ℕ → Decline

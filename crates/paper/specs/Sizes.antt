@@ -29,6 +29,10 @@ STORE = PARTS * PART
 unfoldable pub REPLY-MIN : ℕ
 REPLY-MIN = 9
 
+-- the most sets of charges in a file of them
+unfoldable pub SETS-MAX : ℕ
+SETS-MAX = 65536
+
 -- the most bytes that a listener list has
 unfoldable pub LIST-MAX : ℕ
 LIST-MAX = 512

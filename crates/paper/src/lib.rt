@@ -24,6 +24,9 @@ pub const STORE: usize = PARTS * PART;
 // The fewest bytes that a reply buffer has.
 pub const REPLY_MIN: usize = 9;
 
+// The most sets of charges in a file of them.
+pub const SETS_MAX: u32 = 65536;
+
 // The most bytes that a listener list has.
 pub const LIST_MAX: usize = 512;
 
@@ -91,6 +94,8 @@ pub enum Refusal {
     AllTaken,
     // 16: Create response for a number that isn't awaited.
     NotAwaited,
+    // 17: report of shares: the file's length is not a multiple of eight, or it has more than 65,536 sets.
+    NotSets,
     // 18: strict reading: wide number or Length, or ignored bits set.
     Loose,
 }
@@ -116,6 +121,7 @@ pub fn refusal_number(refusal: Refusal) -> u8
         Refusal::NoStart => 14,
         Refusal::AllTaken => 15,
         Refusal::NotAwaited => 16,
+        Refusal::NotSets => 17,
         Refusal::Loose => 18,
     }
 }

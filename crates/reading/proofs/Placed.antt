@@ -13,7 +13,7 @@ use Rattle.paper.specs.Sizes.{PDU-MAX}
 use Rattle.paper.specs.declared.Refusal.{Refusal}
 use Rattle.paper.specs.declared.Refusal.the-variants.{BadCall, CutShort, TooLong, NoCommand, BadField, BadList}
 use Rattle.paper.specs.declared.Refusal.the-variants.{WrongTime, NotOpen, AlreadyOpen, StillJoining, OverLimit}
-use Rattle.paper.specs.declared.Refusal.the-variants.{PastLength, IsSpoiled, NoStart, AllTaken, NotAwaited, Loose}
+use Rattle.paper.specs.declared.Refusal.the-variants.{PastLength, IsSpoiled, NoStart, AllTaken, NotAwaited, NotSets, Loose}
 use Rattle.paper.specs.Commands.{CREATE, DATA-FIRST, DATA, CAPABILITIES}
 use Rattle.lists.specs.Places.{place}
 use Rattle.lists.specs.Bytes.{isZero}
@@ -51,6 +51,7 @@ ReadingRefusal IsSpoiled = ⊥
 ReadingRefusal NoStart = ⊥
 ReadingRefusal AllTaken = ⊥
 ReadingRefusal NotAwaited = ⊥
+ReadingRefusal NotSets = ⊥
 ReadingRefusal Loose = ⊥
 
 abbrev pub Placed : List ℕ → Pdu → Type 0

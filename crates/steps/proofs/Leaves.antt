@@ -14,7 +14,7 @@ use lib.ListN.{length}
 use Rattle.paper.specs.Sizes.{PARTS, STORE, MESSAGE-MAX}
 use Rattle.paper.specs.Refusals.{refusalNumber}
 use Rattle.paper.specs.declared.Refusal.{Refusal}
-use Rattle.paper.specs.declared.Refusal.the-variants.{BadCall, CutShort, TooLong, NoCommand, BadField, BadList, WrongTime, NotOpen, AlreadyOpen, StillJoining, OverLimit, PastLength, IsSpoiled, NoStart, AllTaken, NotAwaited, Loose}
+use Rattle.paper.specs.declared.Refusal.the-variants.{BadCall, CutShort, TooLong, NoCommand, BadField, BadList, WrongTime, NotOpen, AlreadyOpen, StillJoining, OverLimit, PastLength, IsSpoiled, NoStart, AllTaken, NotAwaited, NotSets, Loose}
 use Rattle.lists.specs.Bytes.{laid, zeros}
 use Rattle.lists.proofs.Cases.{choice, and-false, true-not-false}
 use Rattle.reading.specs.Reading.{readPdu}
@@ -109,6 +109,7 @@ of-reading IsSpoiled h = absurd h
 of-reading NoStart h = absurd h
 of-reading AllTaken h = absurd h
 of-reading NotAwaited h = absurd h
+of-reading NotSets h = absurd h
 of-reading Loose h = absurd h
 
 -- ---- what the rules of one channel leave where they refuse
