@@ -1,0 +1,6 @@
+pub mod Products
+pub mod Formula
+pub mod Bound
+pub mod Laws
+pub mod Main
+pub mod One

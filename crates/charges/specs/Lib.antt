@@ -1,0 +1,4 @@
+pub mod Fractions
+pub mod Formula
+pub mod Weights
+pub mod Promises
