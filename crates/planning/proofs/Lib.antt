@@ -1,0 +1,6 @@
+pub mod Sets
+pub mod Walks
+pub mod Runs
+pub mod Pieces
+pub mod Main
+pub mod One

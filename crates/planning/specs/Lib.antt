@@ -1,0 +1,4 @@
+pub mod Sets
+pub mod Lines
+pub mod Report
+pub mod Course
