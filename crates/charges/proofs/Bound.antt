@@ -22,8 +22,11 @@ four-parts w a b c d s e some =
     let q : ℕ = q0 + q1 + q2 + q3 in
     let times = four-times q0 q1 q2 q3 s in
     let whole : w * s ≡ w * a + w * b + w * c + w * d = rw e (mul-four w a b c d) in
-    let low : w * s < (q + 4) * s =
-    rw (add-mul q 4 s) (omega (arith, whole, times, lt-div-mul-add {a = w * a} some, lt-div-mul-add {a = w * b} some, lt-div-mul-add {a = w * c} some, lt-div-mul-add {a = w * d} some)) in
+    let over-a = lt-div-mul-add {a = w * a} some in
+    let over-b = lt-div-mul-add {a = w * b} some in
+    let over-c = lt-div-mul-add {a = w * c} some in
+    let over-d = lt-div-mul-add {a = w * d} some in
+    let low : w * s < (q + 4) * s = rw (add-mul q 4 s) (omega (arith, whole, times, over-a, over-b, over-c, over-d)) in
     let high : q * s ≤ w * s =
     omega (arith, whole, times, div-mul-le-self (w * a) s, div-mul-le-self (w * b) s, div-mul-le-self (w * c) s, div-mul-le-self (w * d) s) in
     (lt-of-mul-lt-mul-right s low, le-of-mul-le-mul-right high some)

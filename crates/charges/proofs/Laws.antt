@@ -4,7 +4,8 @@ use mathlib.Core.Path.{_≡_, refl, sym, ap, _∙_}
 use mathlib.Core.Logic.{⊎-elim}
 use mathlib.Core.List.{List, [], _∷_}
 use Prim.Native.Nat.{ℕ, zero, suc, _+_, _*_, _/_, _≤_, _<_}
-use native.Mathlib.Nat.{mul-comm, mul-assoc, mul-add, mul-one, mul-zero, add-assoc, add-zero, mul-pos, mul-le-mul-left, div-zero, div-mul-le-self, le-div-iff-mul-le}
+use native.Mathlib.Nat.{mul-comm, mul-assoc, mul-add, mul-one, mul-zero, add-assoc}
+use native.Mathlib.Nat.{add-zero, mul-pos, mul-le-mul-left, div-zero, div-mul-le-self, le-div-iff-mul-le}
 use native.Mathlib.Omega.{arith}
 use borrow.Author.Tests.{ne-eqb, eqb-false}
 use lib.Dec.{eqb}

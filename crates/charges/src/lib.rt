@@ -8,8 +8,9 @@
 // of all four weights. Three charges multiplied, ten thousand times, stay below 2^62.
 use reading::Charges;
 ghost use mathlib.Core.Path.{_≡_};
-ghost use Prim.Native.Nat.{_≤_};
-ghost use Rattle.charges.specs.Formula.{sharesOf};
+ghost use Prim.Native.Nat.{_*_, _≤_, _<_};
+ghost use Rattle.charges.specs.Fractions.{over, floor};
+ghost use Rattle.charges.specs.Formula.{WHOLE, sharesOf};
 ghost use Rattle.charges.specs.Weights.{CHARGE-MAX, WEIGHT-MAX, orOne, weight, part};
 
 // A share is in ten-thousandths.
@@ -44,15 +45,23 @@ fn weigh(charge: u16, a: u64, b: u64, c: u64) -> u64
     a * b * c
 }
 
+// A fraction rounded down.
+fn rounded(top: u64, bottom: u64) -> u64
+    requires { ⌜ (top ≤ WHOLE * WEIGHT-MAX) × ((0 < bottom) × (bottom ≤ 4 * WEIGHT-MAX)) ⌝ }
+    ensures { λ r. ⌜ r ≡ floor (over top bottom) ⌝ }
+{
+    top / bottom
+}
+
 // A weight's part of all weights, in ten-thousandths rounded down.
 fn in_ten_thousand(weight: u64, all: u64) -> u16
-    requires { ⌜ (weight ≤ all) × (weight ≤ WEIGHT-MAX) ⌝ }
+    requires { ⌜ (weight ≤ all) × ((weight ≤ WEIGHT-MAX) × (all ≤ 4 * WEIGHT-MAX)) ⌝ }
     ensures { λ r. ⌜ r ≡ part weight all ⌝ }
 {
     if all == 0 {
         return 0;
     }
-    (WHOLE * weight / all) as u16
+    rounded(WHOLE * weight, all) as u16
 }
 
 // The four shares of four charges.

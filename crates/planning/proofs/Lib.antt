@@ -4,3 +4,4 @@ pub mod Runs
 pub mod Pieces
 pub mod Main
 pub mod One
+pub mod OneOutcome

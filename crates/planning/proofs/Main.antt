@@ -52,3 +52,5 @@ pub one-byte-more : report (EXAMPLE ++ (0 ∷ [])) ≡ SHARES ++ (114 ∷ 101 �
 unfolding report linesOf itemsIn recordsOf recordsIn frontOf setExtent chargesIn valueAt valueOf little lastOf isRefused sumsOf lastLine
     sharesLine fourLine field decimal digitsIn wordField sharesOf shareOf product butOne nonZero SETS-MAX
 one-byte-more = refl
+
+-- One outcome for each input, of every public function: proofs/OneOutcome

@@ -20,14 +20,18 @@ over-both step s (x ∷ xs) ys = over-both step (step s x) xs ys
 
 module _ {extent : List ℕ → ℕ} (f : Framing extent) {A : Type 0} (item : List ℕ → A) where
   -- the items of more behind an input
-  pub items-more : (more input : List ℕ) → itemsIn extent item (input ++ more) ≡ itemsIn extent item input ++ itemsIn extent item (restOf extent input ++ more)
+  pub items-more : (more input : List ℕ)
+      → itemsIn extent item (input ++ more) ≡ itemsIn extent item input ++ itemsIn extent item (restOf extent input ++ more)
   unfolding itemsIn
-  items-more more input = ap (map item) (records-more f more input) ∙ map-append item (recordsOf extent input) (recordsOf extent (restOf extent input ++ more))
+  items-more more input =
+      ap (map item) (records-more f more input)
+      ∙ map-append item (recordsOf extent input) (recordsOf extent (restOf extent input ++ more))
 
   module _ {S : Type 0} (step : S → A → S) where
     module _ (s : S) (input : List ℕ) where
       first-taken : 0 < extent input
-          → afterItems step s (itemsIn extent item input) ≡ afterItems step (step s (item (frontOf extent input))) (itemsIn extent item (drop (extent input) input))
+          → afterItems step s (itemsIn extent item input)
+          ≡ afterItems step (step s (item (frontOf extent input))) (itemsIn extent item (drop (extent input) input))
       unfolding itemsIn afterItems
       first-taken some = rw (records-first f input some)
 
