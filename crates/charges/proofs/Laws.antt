@@ -12,11 +12,13 @@ use lib.Dec.{eqb}
 use lib.ListN.{getD}
 use Rattle.lists.proofs.Cases.{choice, lt-or-le}
 use Rattle.reading.specs.declared.Charges.{Charges}
-use Rattle.charges.specs.Fractions.{over, times, Same}
-use Rattle.charges.specs.Formula.{product, butOne, base, bandwidth, nonZero, WHOLE, shareOf, chargesOf, sharesOf}
+use Rattle.charges.specs.Fractions.{over, times, sum, Same}
+use Rattle.charges.specs.Formula.{product, butOne, base, bandwidth, bandwidths, nonZero, WHOLE, shareOf, chargesOf, sharesOf}
 use Rattle.charges.specs.Weights.{orOne, weight, part, parts, weighed}
 use Rattle.charges.specs.Promises.{chargeAt, shareAt, total}
+use Rattle.charges.proofs.Products.{all-weights}
 use Rattle.charges.proofs.Formula.{product-form}
+use Rattle.charges.proofs.Whole.{add-up-to-one}
 use Rattle.charges.proofs.Bound.{four-parts}
 
 -- ---- the formula
@@ -139,3 +141,24 @@ some-weight c0 c1 c2 c3 (suc (suc (suc (suc class)))) h = absurd (omega (arith, 
 pub add-up : (c : Charges) (class : ℕ) → 0 < chargeAt c class → (9997 ≤ total (sharesOf c)) × (total (sharesOf c) ≤ 10000)
 unfolding weighed
 add-up c class some = rw (product-form c) (parts-add-up _ _ _ _ (some-weight (c .class0) (c .class1) (c .class2) (c .class3) class some))
+
+-- ---- the exact bandwidths
+
+product-up : (charges : List ℕ) → 0 < product (nonZero charges)
+unfolding product nonZero
+product-up [] = omega arith
+product-up (charge ∷ charges) =
+    let behind = product-up charges in
+    choice (λ (left : List ℕ). 0 < product left) (eqb charge 0) (λ t. behind)
+    (λ t. mul-pos {m = charge} {n = product (nonZero charges)} (omega (arith, eqb-false charge 0 t)) behind)
+
+-- where a charge is above 0 the formula's bottom is
+bottom-up : (c : Charges) (class : ℕ) → 0 < chargeAt c class → 0 < butOne (nonZero (chargesOf c))
+bottom-up c class some =
+    rw (all-weights (c .class0) (c .class1) (c .class2) (c .class3)) (some-weight (c .class0) (c .class1) (c .class2) (c .class3) class some)
+
+pub over-no-zero : (c : Charges) (class : ℕ) → 0 < chargeAt c class → 0 < bandwidth (nonZero (chargesOf c)) (chargeAt c class) .bottom
+over-no-zero c class some = mul-pos (bottom-up c class some) some
+
+pub come-to-one : (c : Charges) (class : ℕ) → 0 < chargeAt c class → Same (sum (bandwidths (nonZero (chargesOf c)))) (over 1 1)
+come-to-one c class some = add-up-to-one (nonZero (chargesOf c)) (product-up (chargesOf c)) (bottom-up c class some)

@@ -4,9 +4,11 @@ use mathlib.Core.Path.{_≡_}
 use mathlib.Core.List.{List, [], _∷_}
 use Prim.Native.Nat.{ℕ, _+_, _*_, _≤_, _<_}
 use Rattle.reading.specs.declared.Charges.{Charges}
-use Rattle.charges.specs.Fractions.{over, times, Same}
-use Rattle.charges.specs.Formula.{base, bandwidth, nonZero, shareOf, chargesOf, sharesOf}
+use Rattle.charges.specs.Fractions.{over, times, sum, Same}
+use Rattle.charges.specs.Formula.{base, bandwidth, bandwidths, nonZero, shareOf, chargesOf, sharesOf}
+use Rattle.charges.specs.Weights.{weighed}
 use Rattle.charges.specs.Promises.{chargeAt, shareAt, total}
+use Rattle.charges.proofs.Formula as formula
 use Rattle.charges.proofs.Laws as laws
 
 -- ---- the formula
@@ -23,6 +25,17 @@ all-four = laws.all-four
 -- a class's bandwidth goes with the reciprocal of its charge: the charge times it is the same for every class
 pub by-reciprocal : (charges : List ℕ) (charge : ℕ) → Same (times charge (bandwidth charges charge)) (base charges)
 by-reciprocal = laws.by-reciprocal
+
+-- "the total sum of all BandwidthPriorityX values is equal to 1", over those above 0; and no bandwidth is over 0
+pub come-to-one : (c : Charges) (class : ℕ) → 0 < chargeAt c class → Same (sum (bandwidths (nonZero (chargesOf c)))) (over 1 1)
+come-to-one = laws.come-to-one
+
+pub over-no-zero : (c : Charges) (class : ℕ) → 0 < chargeAt c class → 0 < bandwidth (nonZero (chargesOf c)) (chargeAt c class) .bottom
+over-no-zero = laws.over-no-zero
+
+-- the code's product form is the formula
+pub product-form : (c : Charges) → sharesOf c ≡ weighed c
+product-form = formula.product-form
 
 -- a class's share is by its charge alone, beside the four
 pub of-each : (c : Charges) (class : ℕ) → shareAt c class ≡ shareOf (chargesOf c) (chargeAt c class)

@@ -3,7 +3,7 @@
 -- not used [..]; remaining bandwidth is shared among channels with non-zero PriorityChargeX values, as described in the formula".
 use Prim.Native.Nat.{ℕ, _+_, _*_}
 use mathlib.Core.Bool.{cond}
-use mathlib.Core.List.{List, [], _∷_}
+use mathlib.Core.List.{List, [], _∷_, map}
 use lib.Dec.{eqb}
 use Rattle.reading.specs.declared.Charges.{Charges}
 use Rattle.charges.specs.declared.Shares.{Shares}
@@ -29,6 +29,10 @@ base charges = over (product charges) (butOne charges)
 -- "BandwidthPriority0 = Base / PriorityCharge0", and so for each
 abbrev pub bandwidth : List ℕ → ℕ → Fraction
 bandwidth charges charge = dividedBy (base charges) charge
+
+-- those of all charges
+abbrev pub bandwidths : List ℕ → List Fraction
+bandwidths charges = map (bandwidth charges) charges
 
 -- ---- shares
 

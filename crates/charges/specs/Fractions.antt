@@ -1,6 +1,7 @@
 -- Fractions of numbers, exact: a top over a bottom.
 use mathlib.Core.Path.{_≡_}
-use Prim.Native.Nat.{ℕ, _*_, _/_}
+use mathlib.Core.List.{List, [], _∷_}
+use Prim.Native.Nat.{ℕ, _+_, _*_, _/_}
 
 pub record Fraction : Type 0 where
   pub top : ℕ
@@ -16,6 +17,13 @@ dividedBy f n = over (f .top) (f .bottom * n)
 -- so many times a fraction
 abbrev pub times : ℕ → Fraction → Fraction
 times n f = over (n * f .top) (f .bottom)
+
+abbrev pub plus : Fraction → Fraction → Fraction
+plus f g = over (f .top * g .bottom + g .top * f .bottom) (f .bottom * g .bottom)
+
+unfoldable pub sum : List Fraction → Fraction
+sum [] = over 0 1
+sum (f ∷ fs) = plus f (sum fs)
 
 -- rounded down
 abbrev pub floor : Fraction → ℕ
