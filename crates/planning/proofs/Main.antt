@@ -2,7 +2,9 @@
 -- Assumes nothing.
 use mathlib.Core.Path.{_≡_, refl}
 use mathlib.Core.List.{List, [], _∷_, _++_}
-use Prim.Native.Nat.{ℕ, _/_}
+use mathlib.Core.Bool.{not, _||_}
+use Prim.Native.Nat.{ℕ, _/_, _%_}
+use lib.Dec.{ltb, eqb}
 use lib.ListN.{length}
 use Rattle.paper.specs.Sizes.{SETS-MAX}
 use Rattle.numbers.specs.Numbers.{little, valueOf, valueAt}
@@ -22,9 +24,12 @@ use Rattle.planning.proofs.Pieces as pieces
 pub however-cut : (reads : List (List ℕ)) → printed startCourse [] reads ≡ report (allOf reads)
 however-cut = pieces.however-cut
 
--- A file has as many sets as its bytes have eights.
+-- A file has as many sets as its bytes have eights, and 17 comes by its length alone.
 pub count-sets : (file : List ℕ) → length (setsOf file) ≡ length file / SET
 count-sets = pieces.count-sets
+
+pub refused-when : (file : List ℕ) → isRefused file ≡ (not (eqb (length file % SET) 0) || ltb SETS-MAX (length file / SET))
+refused-when = pieces.refused-when
 
 -- ---- by computing
 

@@ -1,7 +1,7 @@
 -- However a file is cut into reads, what is printed is its report.
 -- Assumes nothing.
 use mathlib.Core.Path.{_≡_, refl, sym, ap, _∙_}
-use mathlib.Core.Bool.{true, false, not, or-true, or-false}
+use mathlib.Core.Bool.{true, false, not, _||_, or-true, or-false}
 use mathlib.Core.List.{List, [], _∷_, _++_, append-assoc, append-nil}
 use mathlib.Core.Logic.{⊎-elim}
 use Prim.Native.Nat.{ℕ, _+_, _*_, _/_, _%_, _≤_, _<_, min}
@@ -108,6 +108,11 @@ length-rest file = omega (arith, left-over file)
 pub count-sets : (file : List ℕ) → length (setsOf file) ≡ length file / SET
 unfolding itemsIn
 count-sets file = length-map (recordsOf setExtent file) chargesIn ∙ omega (arith, left-over file)
+
+-- which files are refused, by their length alone
+pub refused-when : (file : List ℕ) → isRefused file ≡ (not (eqb (length file % SET) 0) || ltb SETS-MAX (length file / SET))
+unfolding isRefused
+refused-when file = rw (count-sets file) refl
 
 -- what the report ends with
 ends-so : (file : List ℕ)

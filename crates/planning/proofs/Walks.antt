@@ -32,6 +32,7 @@ roomy c set used n e h room = go (ltb (c .sets) SETS-MAX) refl _ _ _ refl refl e
     go true is line in-limit over f g e = omega (arith, ltb-true (c .sets) SETS-MAX is, f)
     go false is line in-limit over f g e = omega (arith, ltb-false (c .sets) SETS-MAX is, g, e)
 
+-- a walk that has taken `at` bytes and laid `used` bytes of text, with its course now
 pub record Left (c : Course) (input out₀ out : List ℕ) (next : Course) (at used : ℕ) : Type 0 where
   -- the lines laid so far
   pub text : List ℕ
@@ -60,7 +61,7 @@ goes-on c input out₀ out out′ next next′ at used n left there e f h g =
     (omega (arith, left .leads .0)) in
     record {
       text = left .text ++ lineFor next set;
-      leads = rw (e) (rw (whole) at on);
+      leads = rw e (rw whole at on);
       so-far = laid-next out₀ out out′ (left .text) (lineFor next set) used (left .used-is) (left .so-far) g;
       used-is = ends (left .text) (lineFor next set) (left .used-is) f;
       room = rw e (roomy next set used n f h (left .room));
