@@ -14,7 +14,7 @@ use Rattle.lists.proofs.Cases.{choice, lt-or-le}
 use Rattle.reading.specs.declared.Charges.{Charges}
 use Rattle.charges.specs.Fractions.{over, times, sum, Same}
 use Rattle.charges.specs.Formula.{product, butOne, base, bandwidth, bandwidths, nonZero, WHOLE, shareOf, chargesOf, sharesOf}
-use Rattle.charges.specs.Weights.{orOne, weight, part, parts, weighed}
+use Rattle.charges.specs.Weights.{orOne, weight, allWeights, part, parts, weighed}
 use Rattle.charges.specs.Promises.{chargeAt, shareAt, total}
 use Rattle.charges.proofs.Products.{all-weights}
 use Rattle.charges.proofs.Formula.{product-form}
@@ -129,9 +129,7 @@ at-most c = rw (product-form c) (go _ _ _ _)
         ⊎-elim (λ (some : 0 < w0 + w1 + w2 + w3). parts-add-up w0 w1 w2 w3 some .1)
         (λ (none : w0 + w1 + w2 + w3 ≤ 0). no-parts w0 w1 w2 w3 (omega arith)) (lt-or-le 0 (w0 + w1 + w2 + w3))
 
-some-weight : (c0 c1 c2 c3 class : ℕ) → 0 < getD (c0 ∷ c1 ∷ c2 ∷ c3 ∷ []) class 0
-    → 0 < weight c0 (orOne c1) (orOne c2) (orOne c3) + weight c1 (orOne c0) (orOne c2) (orOne c3)
-    + weight c2 (orOne c0) (orOne c1) (orOne c3) + weight c3 (orOne c0) (orOne c1) (orOne c2)
+some-weight : (c0 c1 c2 c3 class : ℕ) → 0 < getD (c0 ∷ c1 ∷ c2 ∷ c3 ∷ []) class 0 → 0 < allWeights c0 c1 c2 c3
 some-weight c0 c1 c2 c3 zero h = omega (arith, has-weight c0 c1 c2 c3 h)
 some-weight c0 c1 c2 c3 (suc zero) h = omega (arith, has-weight c1 c0 c2 c3 h)
 some-weight c0 c1 c2 c3 (suc (suc zero)) h = omega (arith, has-weight c2 c0 c1 c3 h)

@@ -8,7 +8,7 @@ use native.Mathlib.Nat.{mul-comm, mul-assoc, mul-left-comm, mul-add, mul-one, mu
 use native.Mathlib.Omega.{arith}
 use lib.Dec.{eqb}
 use Rattle.charges.specs.Formula.{product, butOne, nonZero}
-use Rattle.charges.specs.Weights.{CHARGE-MAX, WEIGHT-MAX, orOne, weight}
+use Rattle.charges.specs.Weights.{CHARGE-MAX, WEIGHT-MAX, orOne, weight, allWeights}
 
 -- ---- bounds
 
@@ -56,9 +56,7 @@ scaled true n m = omega arith
 scaled false n m = refl
 
 -- the sum of the products is that of the four weights
-pub all-weights : (c0 c1 c2 c3 : ℕ) → butOne (nonZero (c0 ∷ c1 ∷ c2 ∷ c3 ∷ []))
-    ≡ weight c0 (orOne c1) (orOne c2) (orOne c3) + weight c1 (orOne c0) (orOne c2) (orOne c3)
-    + weight c2 (orOne c0) (orOne c1) (orOne c3) + weight c3 (orOne c0) (orOne c1) (orOne c2)
+pub all-weights : (c0 c1 c2 c3 : ℕ) → butOne (nonZero (c0 ∷ c1 ∷ c2 ∷ c3 ∷ [])) ≡ allWeights c0 c1 c2 c3
 unfolding weights weight product
 all-weights c0 c1 c2 c3 =
     but-one (c0 ∷ c1 ∷ c2 ∷ c3 ∷ [])

@@ -8,7 +8,7 @@ use native.Mathlib.Omega.{arith}
 use Rattle.charges.specs.Fractions.{Fraction, over, sum, Same}
 use Rattle.charges.specs.Formula.{product, butOne, bandwidths}
 
--- two products of seven, put in another order
+-- products, put in another order
 own : (p s c q b : ℕ) → p * b * (s * (c * q)) ≡ p * q * (s * c * b)
 own p s c q b = rw (sym (mul-assoc s c q), mul-comm (s * c) q, mul-mul-mul-comm p b q (s * c), mul-comm b (s * c)) refl
 

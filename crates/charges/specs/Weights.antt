@@ -22,6 +22,12 @@ orOne charge = cond (eqb charge 0) 1 charge
 unfoldable pub weight : ℕ → ℕ → ℕ → ℕ → ℕ
 weight charge a b c = cond (eqb charge 0) 0 (a * b * c)
 
+-- the four together
+abbrev pub allWeights : ℕ → ℕ → ℕ → ℕ → ℕ
+allWeights c0 c1 c2 c3 =
+    weight c0 (orOne c1) (orOne c2) (orOne c3) + weight c1 (orOne c0) (orOne c2) (orOne c3)
+    + weight c2 (orOne c0) (orOne c1) (orOne c3) + weight c3 (orOne c0) (orOne c1) (orOne c2)
+
 -- a weight's part of all, in ten-thousandths rounded down
 unfoldable pub part : ℕ → ℕ → ℕ
 part w all = WHOLE * w / all

@@ -19,7 +19,7 @@ use Rattle.charges.proofs.Laws.{at-most}
 use Rattle.records.specs.Items.{afterItems}
 use Rattle.planning.specs.declared.Sums.{Sums}
 use Rattle.planning.specs.declared.Course.{Course}
-use Rattle.planning.specs.Report.{linesOf, plus, sumsOf}
+use Rattle.planning.specs.Report.{linesOf, plus, noSums, sumsOf}
 use Rattle.planning.specs.Course.{KEPT, added, courseAfter, lineFor, Run, runOf, runAfter, startCourse}
 use Rattle.planning.proofs.Sets.{sets-max}
 
@@ -181,9 +181,8 @@ pub from-start : (sets : List Charges)
     ≡ runOf (record { sets = min (length sets) (SETS-MAX + 1); sums = sumsOf (take SETS-MAX sets) }) (linesOf (take SETS-MAX sets))
 unfolding startCourse
 from-start sets =
-    let none : Sums = record { class0 = 0; class1 = 0; class2 = 0; class3 = 0 } in
     let all : SETS-MAX - 0 ≡ SETS-MAX = omega arith in
-    let small : Small none 0 = ((omega arith, omega arith), (omega arith, omega arith)) in
+    let small : Small noSums 0 = ((omega arith, omega arith), (omega arith, omega arith)) in
     let t = sumsOf (take SETS-MAX sets) in
-    comes sets 0 none (omega arith) small
+    comes sets 0 noSums (omega arith) small
     ∙ rw (all, zero-add (length sets), zero-add (t .class0), zero-add (t .class1), zero-add (t .class2), zero-add (t .class3)) refl

@@ -17,6 +17,7 @@ use Rattle.planning.specs.declared.Last.{Last}
 use Rattle.planning.specs.declared.Last.the-variants.{Added, Refused}
 use Rattle.planning.specs.Sets.{setExtent, chargesIn}
 use Rattle.planning.specs.Lines.{FOUR-MAX, sharesLine, lastLine}
+use Rattle.planning.specs.Report.{noSums}
 
 -- ---- set by set
 
@@ -61,7 +62,7 @@ runAfter r set = runOf (courseAfter (r .course) set) (r .text ++ lineFor (r .cou
 -- ---- in pieces
 
 unfoldable pub startCourse : Course
-startCourse = record { sets = 0; sums = record { class0 = 0; class1 = 0; class2 = 0; class3 = 0 } }
+startCourse = record { sets = 0; sums = noSums }
 
 -- where it stands after the whole sets of what is there, with what is printed for them: the rest is left
 abbrev pub turnedTo : Course → List ℕ → Stood Run

@@ -31,8 +31,11 @@ plus sums s =
       class3 = sums .class3 + s .class3;
     }
 
+abbrev pub noSums : Sums
+noSums = record { class0 = 0; class1 = 0; class2 = 0; class3 = 0 }
+
 unfoldable pub sumsOf : List Charges → Sums
-sumsOf [] = record { class0 = 0; class1 = 0; class2 = 0; class3 = 0 }
+sumsOf [] = noSums
 sumsOf (set ∷ sets) = plus (sumsOf sets) (sharesOf set)
 
 -- "length not a multiple of eight or more than 65,536 sets"

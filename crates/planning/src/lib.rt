@@ -11,7 +11,7 @@ use paper::Refusal;
 use paper::SETS_MAX;
 use reading::Charges;
 ghost use mathlib.Core.Path.{_≡_};
-ghost use Prim.Native.Nat.{_+_, _-_, _*_, _≤_};
+ghost use Prim.Native.Nat.{_*_, _≤_, _<_};
 ghost use lib.ListN.{length};
 ghost use Rattle.paper.specs.Sizes.{SETS-MAX};
 ghost use Rattle.lists.specs.Bytes.{laid};
@@ -110,7 +110,7 @@ fn four(out: &mut [u8], at: usize, a: u64, b: u64, c: u64, d: u64) -> usize
 
 // One set within the limit: its line from a place on, and its shares in the sums.
 fn share(course: Course, set: &[u8], out: &mut [u8], at: usize) -> Stepped
-    requires { ⌜ (course .sets + 1 ≤ SETS-MAX) × (at ≤ TEXT-MAX) ⌝ }
+    requires { ⌜ (course .sets < SETS-MAX) × (at ≤ TEXT-MAX) ⌝ }
     ensures { λ r. ⌜ (r .course ≡ courseAfter course (chargesIn (now (set .entry))))
         × ((r .laid ≡ length (lineFor course (chargesIn (now (set .entry))))) × (r .laid ≤ FOUR-MAX)) ⌝ }
     ensures { λ _. ⌜ now (out .exit) ≡ laid (now (out .entry)) at (lineFor course (chargesIn (now (set .entry)))) ⌝ }
