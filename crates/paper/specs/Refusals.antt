@@ -3,7 +3,7 @@ use Prim.Native.Nat.{ℕ}
 use Rattle.paper.specs.declared.Refusal.{Refusal}
 use Rattle.paper.specs.declared.Refusal.the-variants.{BadCall, CutShort, TooLong, NoCommand, BadField}
 use Rattle.paper.specs.declared.Refusal.the-variants.{BadList, WrongTime, NotOpen, AlreadyOpen, StillJoining}
-use Rattle.paper.specs.declared.Refusal.the-variants.{OverLimit, PastLength, IsSpoiled, NoStart, AllTaken, NotAwaited, NotSets, Loose}
+use Rattle.paper.specs.declared.Refusal.the-variants.{OverLimit, PastLength, IsSpoiled, NoStart, AllTaken, NotAwaited, NotSets, Loose, NoPartner, NoRoom}
 
 abbrev pub refusalNumber : Refusal → ℕ
 refusalNumber BadCall = 1
@@ -24,3 +24,5 @@ refusalNumber AllTaken = 15
 refusalNumber NotAwaited = 16
 refusalNumber NotSets = 17
 refusalNumber Loose = 18
+refusalNumber NoPartner = 19
+refusalNumber NoRoom = 20

@@ -98,6 +98,10 @@ pub enum Refusal {
     NotSets,
     // 18: strict reading: wide number or Length, or ignored bits set.
     Loose,
+    // 19: converting a name: a byte or code point without partner, or UTF-8 that isn't well formed.
+    NoPartner,
+    // 20: converting a name: the result doesn't fit the lent buffer.
+    NoRoom,
 }
 
 // The refusal's number in the paper's table.
@@ -123,5 +127,7 @@ pub fn refusal_number(refusal: Refusal) -> u8
         Refusal::NotAwaited => 16,
         Refusal::NotSets => 17,
         Refusal::Loose => 18,
+        Refusal::NoPartner => 19,
+        Refusal::NoRoom => 20,
     }
 }

@@ -14,7 +14,7 @@ use lib.ListN.{length}
 use Rattle.paper.specs.Sizes.{PARTS, STORE, MESSAGE-MAX}
 use Rattle.paper.specs.Refusals.{refusalNumber}
 use Rattle.paper.specs.declared.Refusal.{Refusal}
-use Rattle.paper.specs.declared.Refusal.the-variants.{BadCall, CutShort, TooLong, NoCommand, BadField, BadList, WrongTime, NotOpen, AlreadyOpen, StillJoining, OverLimit, PastLength, IsSpoiled, NoStart, AllTaken, NotAwaited, NotSets, Loose}
+use Rattle.paper.specs.declared.Refusal.the-variants.{BadCall, CutShort, TooLong, NoCommand, BadField, BadList, WrongTime, NotOpen, AlreadyOpen, StillJoining, OverLimit, PastLength, IsSpoiled, NoStart, AllTaken, NotAwaited, NotSets, Loose, NoPartner, NoRoom}
 use Rattle.lists.specs.Bytes.{laid, zeros}
 use Rattle.lists.proofs.Cases.{choice, and-false, true-not-false}
 use Rattle.reading.specs.Reading.{readPdu}
@@ -111,6 +111,8 @@ of-reading AllTaken h = absurd h
 of-reading NotAwaited h = absurd h
 of-reading NotSets h = absurd h
 of-reading Loose h = absurd h
+of-reading NoPartner h = absurd h
+of-reading NoRoom h = absurd h
 
 -- ---- what the rules of one channel leave where they refuse
 
