@@ -3,7 +3,7 @@
 -- it (`Reads.Post`), so that a loosened `ensures` breaks it; it stands in its crate's proofs/One and is only collected here.
 -- Assumes nothing.
 pub use Rattle.paper.proofs.One.{refusal-number-one as paper-refusal-number-one}
-pub use Rattle.lists.proofs.One.{lesser-one as lists-lesser-one, copy-one as lists-copy-one, copy-at-one as lists-copy-at-one, to-front-one as lists-to-front-one, clear-one as lists-clear-one, first-zero-one as lists-first-zero-one}
+pub use Rattle.lists.proofs.One.{lesser-one as lists-lesser-one, copy-one as lists-copy-one, copy-at-one as lists-copy-at-one, to-front-one as lists-to-front-one, clear-one as lists-clear-one, first-of-one as lists-first-of-one, first-zero-one as lists-first-zero-one}
 pub use Rattle.numbers.proofs.One.{width-one as numbers-width-one, code-one as numbers-code-one, narrow-one as numbers-narrow-one, four-one as numbers-four-one, joined-one as numbers-joined-one, split-one as numbers-split-one, number-one as numbers-number-one, short-at-one as numbers-short-at-one, measure-one as numbers-measure-one, put-one as numbers-put-one, signed-one as numbers-signed-one, unsigned-one as numbers-unsigned-one, status-one as numbers-status-one, status-bytes-one as numbers-status-bytes-one}
 pub use Rattle.reading.proofs.One.{read-one as reading-read-one, read-strict-one as reading-read-strict-one, carries-one as reading-carries-one, verdict-one as reading-verdict-one, dvc-strict-one as reading-dvc-strict-one}
 pub use Rattle.laying.proofs.One.{create-request-one as laying-create-request-one, create-response-one as laying-create-response-one, data-first-one as laying-data-first-one, data-one as laying-data-one, close-one as laying-close-one, capabilities-request-one as laying-capabilities-request-one, capabilities-response-one as laying-capabilities-response-one}

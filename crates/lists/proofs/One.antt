@@ -9,6 +9,7 @@ use Rattle.lists.proofs.copy.Reads as copy
 use Rattle.lists.proofs.copy_at.Reads as copy-at
 use Rattle.lists.proofs.to_front.Reads as to-front
 use Rattle.lists.proofs.clear.Reads as clear
+use Rattle.lists.proofs.first_of.Reads as first-of
 use Rattle.lists.proofs.first_zero.Reads as first-zero
 
 pub lesser-one : (κs : _) (a : _) (r r′ : _) (s s′ : _) → lesser.Post κs a r s → lesser.Post κs a r′ s′
@@ -30,6 +31,9 @@ to-front-one κs a r r′ s s′ p q = same p q
 pub clear-one : (κs : _) (a : _) (r r′ : _) (s s′ : _) → clear.Post κs a r s → clear.Post κs a r′ s′
     → now (s .0) ≡ now (s′ .0)
 clear-one κs a r r′ s s′ p q = same p q
+
+pub first-of-one : (κs : _) (a : _) (r r′ : _) (s s′ : _) → first-of.Post κs a r s → first-of.Post κs a r′ s′ → r ≡ r′
+first-of-one κs a r r′ s s′ p q = same p q
 
 pub first-zero-one : (κs : _) (a : _) (r r′ : _) (s s′ : _) → first-zero.Post κs a r s → first-zero.Post κs a r′ s′
     → r ≡ r′

@@ -15,5 +15,9 @@ laid list at bytes = sets list at bytes
 unfoldable pub zeros : ℕ → List ℕ
 zeros n = replicate n 0
 
+-- the tests by which a byte is looked for
+abbrev pub isByte : ℕ → ℕ → Bool
+isByte byte b = eqb b byte
+
 abbrev pub isZero : ℕ → Bool
-isZero b = eqb b 0
+isZero = isByte 0

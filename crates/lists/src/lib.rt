@@ -1,11 +1,11 @@
 // Byte slices, and the lists that contracts speak of.
 //
 // specs/ has the definitions that every other crate cites: the first place that passes a test, bytes laid over a list,
-// zeros. proofs/ has their laws. The functions copy, clear and look for a zero byte. Each takes slices of any length.
+// zeros. proofs/ has their laws. The functions copy, clear and look for a byte. Each takes slices of any length.
 ghost use mathlib.Core.Path.{_≡_};
 ghost use Prim.Native.Nat.{min};
 ghost use lib.ListN.{length, drop};
-ghost use Rattle.lists.specs.Bytes.{laid, zeros, isZero};
+ghost use Rattle.lists.specs.Bytes.{laid, zeros, isByte, isZero};
 ghost use Rattle.lists.specs.Places.{place};
 
 // The lesser of two numbers.
@@ -59,16 +59,23 @@ pub fn clear(part: &mut [u8])
     }
 }
 
-// The place of the first zero byte, or the length where there is none.
-pub fn first_zero(bytes: &[u8]) -> usize
-    ensures { λ r. ⌜ r ≡ place isZero (now (bytes .entry)) ⌝ }
+// The place of the first byte that is this one, or the length where there is none.
+pub fn first_of(bytes: &[u8], byte: u8) -> usize
+    ensures { λ r. ⌜ r ≡ place (isByte byte) (now (bytes .entry)) ⌝ }
 {
     let mut i = 0;
     while i < bytes.len() {
-        if bytes[i] == 0 {
+        if bytes[i] == byte {
             return i;
         }
         i += 1;
     }
     i
+}
+
+// The place of the first zero byte, or the length where there is none.
+pub fn first_zero(bytes: &[u8]) -> usize
+    ensures { λ r. ⌜ r ≡ place isZero (now (bytes .entry)) ⌝ }
+{
+    first_of(bytes, 0)
 }
