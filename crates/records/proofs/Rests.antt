@@ -35,7 +35,7 @@ module _ {extent : List ℕ → ℕ} (f : Framing extent) where
   unfolding sizeOf
   size-first input some = rw (records-first f input some, length-front f input)
 
-  rest-first : (input : List ℕ) → 0 < extent input → restOf extent input ≡ restOf extent (behind input)
+  pub rest-first : (input : List ℕ) → 0 < extent input → restOf extent input ≡ restOf extent (behind input)
   unfolding restOf
   rest-first input some = rw (size-first input some) (sym (drop-drop (sizeOf (recordsOf extent (behind input))) (extent input) input))
 

@@ -1,0 +1,14 @@
+pub mod Entries
+pub mod Points
+pub mod Rows
+pub mod Grammar
+pub mod Bits
+pub mod Leads
+pub mod Names
+pub mod Answers
+pub mod Fronts
+pub mod Bytes
+pub mod Signs
+pub mod Promises
+pub mod Main
+pub mod One
