@@ -6,6 +6,7 @@ use mathlib.Core.List.{List, [], _∷_, _++_}
 use lib.Dec.{eqb}
 use lib.ListN.{take}
 use Rattle.paper.specs.Sizes.{MESSAGE-MAX}
+pub use Rattle.lists.specs.Lines.{LF}
 use Rattle.channel.specs.declared.Concern.{Concern}
 use Rattle.channel.specs.declared.Concern.the-variants.{NoChannel, Channel}
 use Rattle.channel.specs.declared.Answer.{Answer}
@@ -16,9 +17,6 @@ use Rattle.lines.specs.Hex.{bytesField}
 
 abbrev pub SPACE : ℕ
 SPACE = 32
-
-abbrev pub LF : ℕ
-LF = 10
 
 -- a word's field has at most eight letters and a space
 abbrev pub WORD-MAX : ℕ
@@ -70,9 +68,17 @@ cutLineOf place = field place SPACE ++ (99 ∷ 117 ∷ 116 ∷ 10 ∷ [])
 unfoldable pub readingHeader : List ℕ
 readingHeader = 112 ∷ 100 ∷ 117 ∷ 32 ∷ 114 ∷ 101 ∷ 97 ∷ 100 ∷ 105 ∷ 110 ∷ 103 ∷ 10 ∷ []
 
--- what reading said of a PDU: `ok`, or `refused` and the refusal's number, for which 0 stands where there is none
+-- the most bytes of a refusal's line: a word and a number
+abbrev pub REFUSED-MAX : ℕ
+REFUSED-MAX = WORD-MAX + FIELD-MAX
+
+-- the line of a refusal: `refused` and its number
+unfoldable pub refusedLine : ℕ → List ℕ
+refusedLine n = wordField refused ++ field n LF
+
+-- what reading said of a PDU: `ok`, or the refusal, for which 0 stands where there is none
 unfoldable pub verdictField : ℕ → List ℕ
-verdictField n = cond (eqb n 0) (111 ∷ 107 ∷ 10 ∷ []) (wordField refused ++ field n LF)
+verdictField n = cond (eqb n 0) (111 ∷ 107 ∷ 10 ∷ []) (refusedLine n)
 
 -- the line of a PDU that was read: its place, and what reading said of it
 unfoldable pub readingLineOf : ℕ → ℕ → List ℕ

@@ -2,10 +2,10 @@
 //
 // `header` lays the walker's first line, `line` the line of one PDU from its place, its answer and its reply's length, `answer`
 // the same without its place, `cut_line` the line of a last record that is cut short; `message_line` lays the line of a message handed up;
-// `reading_header` and `reading_line` lay the lines of PDUs that are only read, `totals_header` and `totals_line` those of
-// the connection's totals. Each lays its bytes at the front of a
-// buffer and answers how many there are; `field`, `channel` and `text`, of which lines are made, lay theirs from a place on. Bytes
-// of the buffer behind them stay. A buffer that is too short gets as much as it has room for.
+// `reading_header` and `reading_line` lay the lines of PDUs that are only read, `refused_line` that of a refusal, `totals_header` and
+// `totals_line` those of the connection's totals. Each lays its bytes at the front of a
+// buffer and answers how many there are; `field`, `channel` and `text`, of which lines are made, lay theirs from a place on, and
+// `hex_byte` gives its two. Bytes of the buffer behind them stay. A buffer that is too short gets as much as it has room for.
 use channel::Answer;
 use channel::Concern;
 use paper::MESSAGE_MAX;
@@ -19,7 +19,7 @@ ghost use Rattle.lines.specs.Decimal.{FIELD-MAX, field};
 ghost use Rattle.lines.specs.Hex.{hexDigit, hexByte, hexOf, bytesField};
 ghost use Rattle.lines.specs.Lines.{WORD-MAX, ANSWER-MAX, LINE-MAX, headerLine, wordField, channelField};
 ghost use Rattle.lines.specs.Lines.{answerFields, lineOf, cutLineOf};
-ghost use Rattle.lines.specs.Lines.{messageLineOf, MESSAGE-LINE-MAX, readingHeader, verdictField, readingLineOf};
+ghost use Rattle.lines.specs.Lines.{messageLineOf, MESSAGE-LINE-MAX, readingHeader, REFUSED-MAX, refusedLine, verdictField, readingLineOf};
 ghost use Rattle.lines.specs.Lines.{totalsHeader, totalsLineOf};
 
 // A number's field has at most twenty digits and the byte that ends it.
@@ -33,6 +33,9 @@ pub const ANSWER_MAX: usize = 3 * FIELD_MAX + WORD_MAX;
 
 // The most bytes that a line has: four numbers and a word.
 pub const LINE_MAX: usize = FIELD_MAX + ANSWER_MAX;
+
+// The most bytes of a refusal's line: a word and a number.
+pub const REFUSED_MAX: usize = WORD_MAX + FIELD_MAX;
 
 // The most bytes that a message's line has: two numbers, two digits a byte, and its end.
 pub const MESSAGE_LINE_MAX: usize = 2 * FIELD_MAX + 2 * MESSAGE_MAX + 1;
@@ -165,7 +168,7 @@ fn hex_digit(d: u8) -> u8
 }
 
 // A byte's two digits.
-fn hex_byte(byte: u8) -> [u8; 2]
+pub fn hex_byte(byte: u8) -> [u8; 2]
     ensures { λ r. ⌜ r ≡ hexByte byte ⌝ }
 {
     [hex_digit(byte / 16), hex_digit(byte % 16)]
@@ -220,17 +223,34 @@ pub fn reading_header(out: &mut [u8]) -> usize
     text(out, 0, b"pdu reading\n")
 }
 
-// What reading said, from a place on: `ok` where the refusal's number is 0, and else `refused` and that number.
+// `refused` and a refusal's number, from a place on.
+fn refused(out: &mut [u8], at: usize, refusal: u8) -> usize
+    requires { ⌜ at ≤ FIELD-MAX ⌝ }
+    ensures { λ r. ⌜ (r ≡ length (refusedLine refusal)) × (r ≤ REFUSED-MAX) ⌝ }
+    ensures { λ _. ⌜ now (out .exit) ≡ laid (now (out .entry)) at (refusedLine refusal) ⌝ }
+{
+    let worded = text(out, at, b"refused ");
+    worded + field(out, at + worded, refusal as u64, b'\n')
+}
+
+// The line of a refusal: `refused` and its number.
+pub fn refused_line(out: &mut [u8], refusal: u8) -> usize
+    ensures { λ r. ⌜ (r ≡ length (refusedLine refusal)) × (r ≤ REFUSED-MAX) ⌝ }
+    ensures { λ _. ⌜ now (out .exit) ≡ laid (now (out .entry)) 0 (refusedLine refusal) ⌝ }
+{
+    refused(out, 0, refusal)
+}
+
+// What reading said, from a place on: `ok` where the refusal's number is 0, and else the refusal.
 fn verdict(out: &mut [u8], at: usize, refusal: u8) -> usize
     requires { ⌜ at ≤ FIELD-MAX ⌝ }
-    ensures { λ r. ⌜ (r ≡ length (verdictField refusal)) × (r ≤ WORD-MAX + FIELD-MAX) ⌝ }
+    ensures { λ r. ⌜ (r ≡ length (verdictField refusal)) × (r ≤ REFUSED-MAX) ⌝ }
     ensures { λ _. ⌜ now (out .exit) ≡ laid (now (out .entry)) at (verdictField refusal) ⌝ }
 {
     if refusal == 0 {
         return text(out, at, b"ok\n");
     }
-    let worded = text(out, at, b"refused ");
-    worded + field(out, at + worded, refusal as u64, b'\n')
+    refused(out, at, refusal)
 }
 
 // The line of a PDU that was read: its place, and what reading said of it.

@@ -1,12 +1,11 @@
 -- How a list falls into names: at its zero bytes.
 -- Assumes nothing.
-use mathlib.Core.Path.{_≡_, refl, ap}
+use mathlib.Core.Path.{_≡_, refl}
 use mathlib.Core.Bool.{Bool, true, false, cond}
 use mathlib.Core.List.{List, [], _∷_, _++_}
-use Prim.Native.Nat.{ℕ, suc, _<_}
+use Prim.Native.Nat.{ℕ, suc}
 use native.Mathlib.Omega.{arith}
-use borrow.Author.Tests.{eqb-true}
-use lib.ListN.{length, take, drop}
+use lib.ListN.{length}
 use Rattle.lists.specs.Places.{place, hereOr}
 use Rattle.lists.specs.Bytes.{isZero}
 use Rattle.listeners.specs.Listeners.{names, withFirst}
@@ -38,26 +37,3 @@ names-front (b ∷ name) rest h = go (isZero b) h (names-front name rest)
         rest
     go true k ih = absurd (omega arith)
     go false k ih = rw (ih (omega arith))
-
--- no byte before the first zero byte is zero
-pub clean-before : (l : List ℕ) → Clean (take (place isZero l) l)
-unfolding place
-clean-before [] = refl
-clean-before (b ∷ l) = go (isZero b) refl (clean-before l)
-  where
-    go : (t : Bool) → isZero b ≡ t → Clean (take (place isZero l) l) → Clean (take (hereOr t (place isZero l)) (b ∷ l))
-    go true e ih = refl
-    go false e ih = rw e (ap suc ih)
-
--- a list is the bytes before its first zero byte, the zero byte, and the rest
-pub list-cut : (l : List ℕ) → place isZero l < length l
-    → l ≡ take (place isZero l) l ++ (0 ∷ drop (suc (place isZero l)) l)
-unfolding place
-list-cut [] h = absurd (omega arith)
-list-cut (b ∷ l) h = go (isZero b) refl h (list-cut l)
-  where
-    go : (t : Bool) → isZero b ≡ t → hereOr t (place isZero l) < suc (length l)
-        → (place isZero l < length l → l ≡ take (place isZero l) l ++ (0 ∷ drop (suc (place isZero l)) l))
-        → b ∷ l ≡ take (hereOr t (place isZero l)) (b ∷ l) ++ (0 ∷ drop (suc (hereOr t (place isZero l))) (b ∷ l))
-    go true e k ih = ap (λ (x : ℕ). x ∷ l) (eqb-true b 0 e)
-    go false e k ih = ap (λ (r : List ℕ). b ∷ r) (ih (omega arith))

@@ -6,7 +6,7 @@ use mathlib.Core.List.{List, [], _∷_, _++_}
 use Prim.Native.Nat.{ℕ, zero, suc, _+_, _≤_, _<_}
 use native.Mathlib.Omega.{arith}
 use native.Mathlib.Numerals.{add-one}
-use lib.ListN.{length, getD, set, drop, drop-of-length-le}
+use lib.ListN.{length, take, drop, getD, set, drop-of-length-le}
 use lib.Seq.{drop-cons}
 use Rattle.lists.specs.Places.{place, hereOr}
 
@@ -19,6 +19,17 @@ module _ {A : Type 0} (p : A → Bool) where
       go : (b : Bool) → place p t ≤ length t → hereOr b (place p t) ≤ suc (length t)
       go true h = omega arith
       go false h = omega arith
+
+  -- before the first that passes nothing does
+  pub clean-before : (t : List A) → place p (take (place p t) t) ≡ length (take (place p t) t)
+  unfolding place
+  clean-before [] = refl
+  clean-before (x ∷ t) = go (p x) refl (clean-before t)
+    where
+      go : (b : Bool) → p x ≡ b → place p (take (place p t) t) ≡ length (take (place p t) t)
+          → place p (take (hereOr b (place p t)) (x ∷ t)) ≡ length (take (hereOr b (place p t)) (x ∷ t))
+      go true e ih = refl
+      go false e ih = rw e (ap suc ih)
 
   -- behind a list in which nothing passes, the first that passes is found at the list's length
   pub place-behind : (t : List A) (x : A) (rest : List A) → place p t ≡ length t → p x ≡ true

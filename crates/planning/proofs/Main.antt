@@ -9,7 +9,7 @@ use lib.ListN.{length}
 use Rattle.paper.specs.Sizes.{SETS-MAX}
 use Rattle.numbers.specs.Numbers.{little, valueOf, valueAt}
 use Rattle.lines.specs.Decimal.{digitsIn, decimal, field}
-use Rattle.lines.specs.Lines.{wordField}
+use Rattle.lines.specs.Lines.{wordField, refusedLine}
 use Rattle.charges.specs.Formula.{product, butOne, nonZero, shareOf, sharesOf}
 use Rattle.records.specs.Walks.{frontOf, recordsIn, recordsOf}
 use Rattle.records.specs.Items.{itemsIn, allOf}
@@ -55,7 +55,7 @@ one-set = refl
 -- with one byte more "refused 17" stands in place of the sums
 pub one-byte-more : report (EXAMPLE ++ (0 ∷ [])) ≡ SHARES ++ (114 ∷ 101 ∷ 102 ∷ 117 ∷ 115 ∷ 101 ∷ 100 ∷ 32 ∷ 49 ∷ 55 ∷ 10 ∷ [])
 unfolding report linesOf itemsIn recordsOf recordsIn frontOf setExtent chargesIn valueAt valueOf little lastOf isRefused sumsOf lastLine
-    sharesLine fourLine field decimal digitsIn wordField sharesOf shareOf product butOne nonZero SETS-MAX
+    refusedLine sharesLine fourLine field decimal digitsIn wordField sharesOf shareOf product butOne nonZero SETS-MAX
 one-byte-more = refl
 
 -- One outcome for each input, of every public function: proofs/OneOutcome

@@ -2,9 +2,8 @@
 use Prim.Native.Nat.{ℕ, _+_, _*_}
 use mathlib.Core.List.{List, [], _∷_, _++_}
 use Rattle.paper.specs.Refusals.{refusalNumber}
-use Rattle.channel.specs.Answers.{refused}
 use Rattle.lines.specs.Decimal.{FIELD-MAX, field}
-use Rattle.lines.specs.Lines.{SPACE, LF, wordField}
+use Rattle.lines.specs.Lines.{SPACE, LF, refusedLine}
 use Rattle.charges.specs.declared.Shares.{Shares}
 use Rattle.planning.specs.declared.Last.{Last}
 use Rattle.planning.specs.declared.Last.the-variants.{Added, Refused}
@@ -32,4 +31,4 @@ LAST-MAX = 5 + FOUR-MAX
 -- "then each class's exact sum", or a refusal "in place of the sums"
 unfoldable pub lastLine : Last → List ℕ
 lastLine (Added sums) = SUMS ++ fourLine (sums .class0) (sums .class1) (sums .class2) (sums .class3)
-lastLine (Refused why) = wordField refused ++ field (refusalNumber why) LF
+lastLine (Refused why) = refusedLine (refusalNumber why)

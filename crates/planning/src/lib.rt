@@ -256,9 +256,6 @@ pub fn say(out: &mut [u8], last: Last) -> usize
                     sums.class3,
                 )
         }
-        Last::Refused(why) => {
-            let worded = lines::text(out, 0, b"refused ");
-            worded + lines::field(out, worded, paper::refusal_number(why) as u64, b'\n')
-        }
+        Last::Refused(why) => lines::refused_line(out, paper::refusal_number(why)),
     }
 }

@@ -1,9 +1,6 @@
 -- `planning::say` meets its contract: each arm is a case of the definition, with each part laid behind the one before.
 use denote.Ref.{now}
 use Rattle.lists.proofs.Laid.{laid-next}
-use Rattle.channel.specs.Answers.{refused}
-use Rattle.lines.specs.Decimal.{field}
-use Rattle.lines.specs.Lines.{LF, wordField}
 use Rattle.lines.proofs.Ends.{ends}
 use Rattle.planning.specs.Lines.{SUMS, fourLine, lastLine}
 use Rattle.planning.proofs.Sets.{sets-max}
@@ -28,25 +25,16 @@ returns c =
     )
 
 returns-2 : tie.Need-returns-2
-unfolding lastLine wordField
+unfolding lastLine
 returns-2 c =
-    let at-number = c .before .before in
-    let at-value = at-number .before in
-    let at-word = at-value .before .before .before .before in
-    let met = at-word .before .before .before .before in
-    let out = now (met .before .before .before .args .out) in
-    let f2 = field _ LF in
-    let p1 = at-word .text2 .ensures in
-    let p2 = rw (at-value .refusal-number .ensures) at (at-number .field .ensures) in
-    rw (met .last2 .given .1) (
-      (ends (wordField refused) f2 (p1 .0) (p2 .0 .0), omega (arith, p1 .0, p2 .0 .1)),
-      laid-next out _ _ (wordField refused) f2 _ (p1 .0) (p1 .1) (p2 .1),
-    )
+    let said = c .before .before in
+    let met = said .before .before .before .before in
+    let done = rw (said .before .refusal-number .ensures) at (said .refused-line .ensures) in
+    rw (met .last2 .given .1) ((done .0 .0, omega (arith, done .0 .1)), done .1)
 
 pub say-spec : {M : Type 1} → statement M
 say-spec =
     tie.close
     (tie.spec
     (λ c. search needs) (λ c. search needs) (λ c κs. search needs) (λ c κs. search (needs, sets-max)) (λ c. search needs)
-    (λ c. search needs) (λ c. search needs) (λ c κs. search needs) (λ c κs. search needs) (λ c. search needs)
-    (λ c κs. search needs) (λ c. search needs) (λ c. search needs) returns (λ c. search needs) returns-2)
+    (λ c. search needs) (λ c κs. search needs) (λ c κs. search needs) (λ c. search needs) returns (λ c. search needs) returns-2)
