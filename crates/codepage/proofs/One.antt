@@ -7,6 +7,7 @@ use Rattle.lists.proofs.Cases.{same}
 use Rattle.codepage.proofs.point_of.Reads as point-of
 use Rattle.codepage.proofs.to_utf8.Reads as to-utf8
 use Rattle.codepage.proofs.from_utf8.Reads as from-utf8
+use Rattle.codepage.proofs.has_name.Reads as has-name
 use Rattle.codepage.proofs.dvc_name_to_utf8.Reads as dvc-name-to-utf8
 use Rattle.codepage.proofs.dvc_name_from_utf8.Reads as dvc-name-from-utf8
 
@@ -21,6 +22,9 @@ to-utf8-one κs a r r′ s s′ p q = (same (p .0) (q .0), same (p .1) (q .1))
 pub from-utf8-one : (κs : _) (a : _) (r r′ : _) (s s′ : _) → from-utf8.Post κs a r s → from-utf8.Post κs a r′ s′
     → (r ≡ r′) × (now (s .1 .0) ≡ now (s′ .1 .0))
 from-utf8-one κs a r r′ s s′ p q = (same (p .0) (q .0), same (p .1) (q .1))
+
+pub has-name-one : (κs : _) (a : _) (r r′ : _) (s s′ : _) → has-name.Post κs a r s → has-name.Post κs a r′ s′ → r ≡ r′
+has-name-one κs a r r′ s s′ p q = same p q
 
 pub dvc-name-to-utf8-one : (κs : _) (a : _) (r r′ : _) (s s′ : _) → dvc-name-to-utf8.Post κs a r s → dvc-name-to-utf8.Post κs a r′ s′
     → (r ≡ r′) × (now (s .1 .0) ≡ now (s′ .1 .0))

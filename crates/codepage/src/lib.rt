@@ -4,8 +4,8 @@
 // lent; the bytes behind stay. It refuses with 19 where a byte or a code point has no partner or the text isn't well-formed UTF-8, and
 // then with 20 where the result doesn't fit; both leave every byte of the buffer. All of the input is judged before the room is.
 //
-// Both go by one table, Windows-1252 as Unicode publishes it: `point_of` gives a byte's entry. `dvc_name_to_utf8` and
-// `dvc_name_from_utf8` are the two for hosts in C.
+// Both go by one table, Windows-1252 as Unicode publishes it: `point_of` gives a byte's entry. `has_name` says whether a text can be
+// converted at all. `dvc_name_to_utf8` and `dvc_name_from_utf8` are the two conversions for hosts in C.
 mod windows_1252;
 
 use paper::Refusal;
@@ -295,6 +295,16 @@ fn name_len(text: &[u8]) -> Size
         n += 1;
     }
     Size::Bytes(n)
+}
+
+// Whether a text has a name: it is well formed, and each of its code points has a byte.
+pub fn has_name(text: &[u8]) -> bool
+    ensures { λ r. ⌜ r ≡ isSome (nameOf (now (text .entry))) ⌝ }
+{
+    if let Size::Bytes(_) = name_len(text) {
+        return true;
+    }
+    false
 }
 
 // Writes the name of a text to the front of a buffer that has room for it.

@@ -14,7 +14,7 @@ use Rattle.lines.proofs.cut_line.Reads as cut-line
 use Rattle.lines.proofs.message_line.Reads as message-line
 use Rattle.lines.proofs.hex_byte.Reads as hex-byte
 use Rattle.lines.proofs.reading_header.Reads as reading-header
-use Rattle.lines.proofs.refused_line.Reads as refused-line
+use Rattle.lines.proofs.refused.Reads as refused
 use Rattle.lines.proofs.reading_line.Reads as reading-line
 use Rattle.lines.proofs.totals_header.Reads as totals-header
 use Rattle.lines.proofs.totals_line.Reads as totals-line
@@ -58,9 +58,9 @@ pub reading-header-one : (κs : _) (a : _) (r r′ : _) (s s′ : _) → reading
     → (r ≡ r′) × (now (s .0) ≡ now (s′ .0))
 reading-header-one κs a r r′ s s′ p q = (same (p .0 .0) (q .0 .0), same (p .1) (q .1))
 
-pub refused-line-one : (κs : _) (a : _) (r r′ : _) (s s′ : _) → refused-line.Post κs a r s → refused-line.Post κs a r′ s′
+pub refused-one : (κs : _) (a : _) (r r′ : _) (s s′ : _) → refused.Post κs a r s → refused.Post κs a r′ s′
     → (r ≡ r′) × (now (s .0) ≡ now (s′ .0))
-refused-line-one κs a r r′ s s′ p q = (same (p .0 .0) (q .0 .0), same (p .1) (q .1))
+refused-one κs a r r′ s s′ p q = (same (p .0 .0) (q .0 .0), same (p .1) (q .1))
 
 pub reading-line-one : (κs : _) (a : _) (r r′ : _) (s s′ : _) → reading-line.Post κs a r s → reading-line.Post κs a r′ s′
     → (r ≡ r′) × (now (s .0) ≡ now (s′ .0))

@@ -2,10 +2,10 @@
 //
 // `header` lays the walker's first line, `line` the line of one PDU from its place, its answer and its reply's length, `answer`
 // the same without its place, `cut_line` the line of a last record that is cut short; `message_line` lays the line of a message handed up;
-// `reading_header` and `reading_line` lay the lines of PDUs that are only read, `refused_line` that of a refusal, `totals_header` and
-// `totals_line` those of the connection's totals. Each lays its bytes at the front of a
-// buffer and answers how many there are; `field`, `channel` and `text`, of which lines are made, lay theirs from a place on, and
-// `hex_byte` gives its two. Bytes of the buffer behind them stay. A buffer that is too short gets as much as it has room for.
+// `reading_header` and `reading_line` lay the lines of PDUs that are only read, `totals_header` and `totals_line` those of
+// the connection's totals. Each lays its bytes at the front of a
+// buffer and answers how many there are; `field`, `channel`, `text` and `refused`, of which lines are made, lay theirs from a place on,
+// and `hex_byte` gives its two. Bytes of the buffer behind them stay. A buffer that is too short gets as much as it has room for.
 use channel::Answer;
 use channel::Concern;
 use paper::MESSAGE_MAX;
@@ -223,27 +223,18 @@ pub fn reading_header(out: &mut [u8]) -> usize
     text(out, 0, b"pdu reading\n")
 }
 
-// `refused` and a refusal's number, from a place on.
-fn refused(out: &mut [u8], at: usize, refusal: u8) -> usize
-    requires { ⌜ at ≤ FIELD-MAX ⌝ }
+// `refused` and a refusal's number, from a place on. Answers its length.
+pub fn refused(out: &mut [u8], at: usize, refusal: u8) -> usize
     ensures { λ r. ⌜ (r ≡ length (refusedLine refusal)) × (r ≤ REFUSED-MAX) ⌝ }
     ensures { λ _. ⌜ now (out .exit) ≡ laid (now (out .entry)) at (refusedLine refusal) ⌝ }
 {
-    let worded = text(out, at, b"refused ");
-    worded + field(out, at + worded, refusal as u64, b'\n')
-}
-
-// The line of a refusal: `refused` and its number.
-pub fn refused_line(out: &mut [u8], refusal: u8) -> usize
-    ensures { λ r. ⌜ (r ≡ length (refusedLine refusal)) × (r ≤ REFUSED-MAX) ⌝ }
-    ensures { λ _. ⌜ now (out .exit) ≡ laid (now (out .entry)) 0 (refusedLine refusal) ⌝ }
-{
-    refused(out, 0, refusal)
+    let from = lists::lesser(at, out.len());
+    let worded = text(out, from, b"refused ");
+    worded + field(out, from + worded, refusal as u64, b'\n')
 }
 
 // What reading said, from a place on: `ok` where the refusal's number is 0, and else the refusal.
 fn verdict(out: &mut [u8], at: usize, refusal: u8) -> usize
-    requires { ⌜ at ≤ FIELD-MAX ⌝ }
     ensures { λ r. ⌜ (r ≡ length (verdictField refusal)) × (r ≤ REFUSED-MAX) ⌝ }
     ensures { λ _. ⌜ now (out .exit) ≡ laid (now (out .entry)) at (verdictField refusal) ⌝ }
 {

@@ -54,6 +54,14 @@ unfolding laid
 laid-past l at [] h = refl
 laid-past l at (b ∷ bs) h = rw (set-out l at b h) (laid-past l (suc at) bs (omega arith))
 
+-- from whatever place past the end
+pub laid-least : (l : List ℕ) (at : ℕ) (bs : List ℕ) → laid l (min at (length l)) bs ≡ laid l at bs
+laid-least l at bs =
+    ⊎-elim
+    (λ (h : at < length l). let e : min at (length l) ≡ at = omega arith in rw e)
+    (λ (h : length l ≤ at). rw (laid-past l at bs h) (laid-past l (min at (length l)) bs (omega arith)))
+    (lt-or-le at (length l))
+
 -- of bytes that are laid over the end, those past it don't count
 pub laid-fits : (l : List ℕ) (at : ℕ) (bs : List ℕ) → laid l at (take (length l - at) bs) ≡ laid l at bs
 unfolding laid

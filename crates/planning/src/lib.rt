@@ -256,6 +256,6 @@ pub fn say(out: &mut [u8], last: Last) -> usize
                     sums.class3,
                 )
         }
-        Last::Refused(why) => lines::refused_line(out, paper::refusal_number(why)),
+        Last::Refused(why) => lines::refused(out, 0, paper::refusal_number(why)),
     }
 }

@@ -29,7 +29,7 @@ unfolding lastLine
 returns-2 c =
     let said = c .before .before in
     let met = said .before .before .before .before in
-    let done = rw (said .before .refusal-number .ensures) at (said .refused-line .ensures) in
+    let done = rw (said .before .refusal-number .ensures) at (said .refused .ensures) in
     rw (met .last2 .given .1) ((done .0 .0, omega (arith, done .0 .1)), done .1)
 
 pub say-spec : {M : Type 1} → statement M
