@@ -11,6 +11,7 @@ use lib.Dec.{ltb}
 use lib.ListN.{length}
 use Rattle.lists.specs.Bytes.{laid}
 use Rattle.lists.proofs.Cases.{choice, true-not-false}
+use Rattle.paper.specs.declared.Refusal.{Refusal}
 use Rattle.paper.specs.declared.Refusal.the-variants.{NoPartner, NoRoom}
 use Rattle.codepage.specs.declared.Converted.{Converted}
 use Rattle.codepage.specs.declared.Converted.the-variants.{Length, Refused}
@@ -42,6 +43,42 @@ pub written : (r : Option (List ℕ)) (out after : List ℕ) (n : ℕ) → isSom
 unfolding answerFor bufferFor
 written none out after n is fits e f = absurd (true-not-false (sym is))
 written (some result) out after n is fits e f = rw (le-ltb (length out) (length result) fits, e) (refl, f)
+
+-- ---- the other way round
+
+-- with room there is no refusal but for want of a result
+pub refused-none : (r : Option (List ℕ)) (out : List ℕ) (why : Refusal) → answerFor r out ≡ Refused why → length (resultOf r) ≤ length out → r ≡ none
+unfolding answerFor
+refused-none none out why e room = refl
+refused-none (some result) out why e room =
+    let f = rw (le-ltb (length out) (length result) room) at e in
+    let z : _≡_ {A = ℕ} 0 1 = cc in
+    absurd (omega arith)
+
+pub refused-leaves : (r : Option (List ℕ)) (out : List ℕ) (why : Refusal) → answerFor r out ≡ Refused why → bufferFor r out ≡ out
+unfolding answerFor bufferFor
+refused-leaves none out why e = refl
+refused-leaves (some result) out why e = go (ltb (length out) (length result)) e
+  where
+    go : (t : Bool) → cond t (Refused NoRoom) (Length (length result)) ≡ Refused why → cond t out (laid out 0 result) ≡ out
+    go true e = refl
+    go false e = let z : _≡_ {A = ℕ} 0 1 = cc in absurd (omega arith)
+
+-- a length is that of the result, which is laid at the front
+pub record Laid (r : Option (List ℕ)) (out : List ℕ) (n : ℕ) : Type 0 where
+  pub has-result : r ≡ some (resultOf r)
+  pub its-length : n ≡ length (resultOf r)
+  pub fits : length (resultOf r) ≤ length out
+  pub buffer : bufferFor r out ≡ laid out 0 (resultOf r)
+
+pub length-laid-so : (r : Option (List ℕ)) (out : List ℕ) (n : ℕ) → answerFor r out ≡ Length n → Laid r out n
+unfolding answerFor bufferFor
+length-laid-so none out n e = let z : _≡_ {A = ℕ} 0 1 = cc in absurd (omega arith)
+length-laid-so (some result) out n e = go (ltb (length out) (length result)) refl e
+  where
+    go : (t : Bool) → ltb (length out) (length result) ≡ t → cond t (Refused NoRoom) (Length (length result)) ≡ Length n → Laid (some result) out n
+    go true over e = let z : _≡_ {A = ℕ} 0 1 = cc in absurd (omega arith)
+    go false over e = record { has-result = refl; its-length = cc; fits = ltb-false (length out) (length result) over; buffer = rw over }
 
 -- ---- room
 

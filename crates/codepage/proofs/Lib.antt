@@ -9,6 +9,7 @@ pub mod Answers
 pub mod Fronts
 pub mod Bytes
 pub mod Signs
+pub mod Ascii
 pub mod Promises
 pub mod Main
 pub mod One

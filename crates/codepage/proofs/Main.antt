@@ -20,6 +20,7 @@ use Rattle.codepage.specs.Names.{partners, utf8Of, nameOf, isSome, resul
 use Rattle.codepage.specs.Promises.{WellFormed, Same, hasFive, Bytes, convertingRows, outcome, answerIn}
 use Rattle.codepage.proofs.Points as table
 use Rattle.codepage.proofs.Names as names
+use Rattle.codepage.proofs.Answers as answers
 use Rattle.codepage.proofs.Promises as promises
 use Rattle.codepage.proofs.to_utf8.Reads as to-utf8
 use Rattle.codepage.proofs.from_utf8.Reads as from-utf8
@@ -116,7 +117,7 @@ by-the-five = promises.by-the-five
 
 -- "Both leave the buffer unchanged."
 pub refused-leaves : (result : Option (List ℕ)) (out : List ℕ) (why : Refusal) → answerFor result out ≡ Refused why → bufferFor result out ≡ out
-refused-leaves = promises.refused-leaves
+refused-leaves = answers.refused-leaves
 
 -- a length is that of the result, which stands at the front, and the bytes behind it stay
 pub length-written : (result : Option (List ℕ)) (out : List ℕ) (n : ℕ) → answerFor result out ≡ Length n → promises.Written result out n

@@ -5,11 +5,11 @@ use mathlib.Core.Logic.{inl, ⊎-elim}
 use mathlib.Core.Bool.{Bool, true, false, cond}
 use mathlib.Core.List.{List, [], _∷_, _++_}
 use mathlib.Core.Option.{Option, none, some, Option·map}
-use Prim.Native.Nat.{ℕ, suc, _+_, _≤_, _<_}
+use Prim.Native.Nat.{ℕ, suc, _+_, _*_, _≤_, _<_}
 use native.Mathlib.Omega.{arith}
 use borrow.Author.Tests.{eqb-true, eqb-false, ne-eqb}
 use lib.Dec.{eqb}
-use lib.ListN.{length, take, drop, getD, length-drop}
+use lib.ListN.{length, take, drop, getD, length-drop, length-append}
 use lib.Seq.{drop-cons}
 use Rattle.lists.proofs.Cases.{lt-or-le, true-not-false}
 use Rattle.records.specs.Walks.{restOf}
@@ -22,7 +22,7 @@ use Rattle.codepage.specs.declared.Front.{Front}
 use Rattle.codepage.specs.declared.Front.the-variants.{Byte, Nothing}
 use Rattle.codepage.proofs.Leads.{behind, Leads, leads-on, leads-stop}
 use Rattle.codepage.proofs.Points.{partners-point, partners-byte, point-partners, byte-partners, partners-plain}
-use Rattle.codepage.proofs.Bits.{sequence-back, scalar-spelled}
+use Rattle.codepage.proofs.Bits.{one-byte, two-bytes, three-bytes, sequence-back, scalar-spelled}
 use Rattle.codepage.proofs.Grammar.{sequence-framing, points-first, spelled-read, well-formed, spells-well-formed}
 
 -- ---- a name from its front
@@ -132,14 +132,14 @@ module _ (text : List ℕ) (at : ℕ) (there : at < length text) (done : List �
 -- ---- there and back
 
 -- what is known of partners of more than none
-record First (partner : ℕ → Option ℕ) (x : ℕ) (xs ys : List ℕ) : Type 0 where
+pub record First (partner : ℕ → Option ℕ) (x : ℕ) (xs ys : List ℕ) : Type 0 where
   pub y : ℕ
   pub others : List ℕ
   pub its : partner x ≡ some y
   pub theirs : partners partner xs ≡ some others
   pub all : ys ≡ y ∷ others
 
-first : (partner : ℕ → Option ℕ) (x : ℕ) (xs ys : List ℕ) → partners partner (x ∷ xs) ≡ some ys → First partner x xs ys
+pub first : (partner : ℕ → Option ℕ) (x : ℕ) (xs ys : List ℕ) → partners partner (x ∷ xs) ≡ some ys → First partner x xs ys
 unfolding partners
 first partner x xs ys e = go (partner x) (partners partner xs) refl refl e
   where
@@ -216,3 +216,34 @@ name-back name text e = same-name text name (utf8-same name text e)
 
 pub text-back : (text name : List ℕ) → nameOf text ≡ some name → utf8Of name ≡ some text
 text-back text name e = same-utf8 name text (name-same text name e)
+
+-- ---- how long
+
+-- a code point of a name takes one to three bytes
+sequence-long : (p : ℕ) → p < 0xD800 → (1 ≤ length (sequenceOf p)) × (length (sequenceOf p) ≤ 3)
+sequence-long p h =
+    ⊎-elim
+    (λ (a : p < 0x80). rw (one-byte p a) (omega arith, omega arith))
+    (λ (a : 0x80 ≤ p).
+    ⊎-elim
+    (λ (b : p < 0x800). rw (two-bytes p a b) (omega arith, omega arith))
+    (λ (b : 0x800 ≤ p). rw (three-bytes p b (omega arith)) (omega arith, omega arith))
+    (lt-or-le p 0x800))
+    (lt-or-le p 0x80)
+
+spelled-long : (name points : List ℕ) → partners pointFor name ≡ some points
+    → (length name ≤ length (spelled points)) × (length (spelled points) ≤ 3 * length name)
+unfolding partners spelled
+spelled-long [] points e = let empty : points ≡ [] = cc in rw empty (omega arith, omega arith)
+spelled-long (b ∷ name) points e =
+    let one = first pointFor b name points e in
+    let p = one .y in
+    let long = sequence-long p (partners-plain b p (point-partners b p (one .its))) in
+    let later = spelled-long name (one .others) (one .theirs) in
+    let both = length-append (sequenceOf p) (spelled (one .others)) in
+    rw (one .all) (omega (arith, long, later, both), omega (arith, long, later, both))
+
+pub utf8-long : (name text : List ℕ) → utf8Of name ≡ some text → (length name ≤ length text) × (length text ≤ 3 * length name)
+utf8-long name text e =
+    let same = utf8-same name text e in
+    rw (spells-spelled (same .points) text (same .spell)) at (spelled-long name (same .points) (same .its-points))

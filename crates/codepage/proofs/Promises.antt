@@ -7,14 +7,12 @@ use mathlib.Core.Option.{Option, none, some, Option·map}
 use Prim.Native.Nat.{ℕ, _≤_}
 use native.Mathlib.Nat.{zero-add}
 use native.Mathlib.Omega.{arith}
-use borrow.Author.Tests.{ltb-false, le-ltb}
+use borrow.Author.Tests.{le-ltb}
 use lib.Dec.{ltb}
 use lib.ListN.{length, take, drop}
 use lib.Seq.{drop-at}
-use Rattle.lists.specs.Bytes.{laid}
 use Rattle.lists.proofs.Laid.{laid-eq, front, length-laid}
 use Rattle.paper.specs.Rows.{fine, refusedWith, firstHeld, comesTo}
-use Rattle.paper.specs.declared.Refusal.{Refusal}
 use Rattle.paper.specs.declared.Refusal.the-variants.{NoPartner, NoRoom}
 use Rattle.codepage.specs.declared.Converted.{Converted}
 use Rattle.codepage.specs.declared.Converted.the-variants.{Length, Refused}
@@ -23,6 +21,7 @@ use Rattle.codepage.specs.Utf8.{IsScalar, sequenceOf, spelled, Spells, n
 use Rattle.codepage.specs.Names.{withFirst, partners, utf8Of, isSome, resultOf, answerFor, bufferFor, numberFor}
 use Rattle.codepage.specs.Promises.{WellFormed, Same, hasFive, Bytes, convertingRows, outcome, answerIn}
 use Rattle.codepage.proofs.Points.{none-at-five}
+use Rattle.codepage.proofs.Answers.{length-laid-so}
 use Rattle.codepage.proofs.Bits.{scalar-spelled}
 use Rattle.codepage.proofs.Grammar.{spelled-read}
 use Rattle.codepage.proofs.Names.{spells-spelled, utf8-same}
@@ -80,15 +79,6 @@ first-row (some result) out = go (ltb (length out) (length result))
     go true = refl
     go false = refl
 
-pub refused-leaves : (r : Option (List ℕ)) (out : List ℕ) (why : Refusal) → answerFor r out ≡ Refused why → bufferFor r out ≡ out
-unfolding answerFor bufferFor
-refused-leaves none out why e = refl
-refused-leaves (some result) out why e = go (ltb (length out) (length result)) e
-  where
-    go : (t : Bool) → cond t (Refused NoRoom) (Length (length result)) ≡ Refused why → cond t out (laid out 0 result) ≡ out
-    go true e = refl
-    go false e = let z : _≡_ {A = ℕ} 0 1 = cc in absurd (omega arith)
-
 -- a length is that of the result, which stands at the front, and the bytes behind it stay
 pub record Written (r : Option (List ℕ)) (out : List ℕ) (n : ℕ) : Type 0 where
   pub result : List ℕ
@@ -99,25 +89,18 @@ pub record Written (r : Option (List ℕ)) (out : List ℕ) (n : ℕ) : Type 0 w
   pub as-long : length (bufferFor r out) ≡ length out
 
 pub length-written : (r : Option (List ℕ)) (out : List ℕ) (n : ℕ) → answerFor r out ≡ Length n → Written r out n
-unfolding answerFor bufferFor
-length-written none out n e = let z : _≡_ {A = ℕ} 0 1 = cc in absurd (omega arith)
-length-written (some result) out n e = go (ltb (length out) (length result)) refl e
-  where
-    go : (t : Bool) → ltb (length out) (length result) ≡ t → cond t (Refused NoRoom) (Length (length result)) ≡ Length n
-        → Written (some result) out n
-    go true over e = let z : _≡_ {A = ℕ} 0 1 = cc in absurd (omega arith)
-    go false over e =
-        let fits = ltb-false (length out) (length result) over in
-        let is : n ≡ length result = cc in
-        let whole = rw zero-add at (laid-eq out 0 result (omega arith)) in
-        record {
-          result = result;
-          is-result = refl;
-          its-length = is;
-          at-front = rw (over, is) (front out result fits);
-          behind-stays = rw (over, is, whole) (drop-at result (drop (length result) out) (length result) refl);
-          as-long = rw over (length-laid out 0 result);
-        }
+length-written r out n e =
+    let so = length-laid-so r out n e in
+    let result = resultOf r in
+    let whole = so .buffer ∙ rw zero-add at (laid-eq out 0 result (omega (arith, so .fits))) in
+    record {
+      result = result;
+      is-result = so .has-result;
+      its-length = so .its-length;
+      at-front = rw (so .buffer, so .its-length) (front out result (so .fits));
+      behind-stays = rw (whole, so .its-length) (drop-at result (drop (length result) out) (length result) refl);
+      as-long = rw (so .buffer) (length-laid out 0 result);
+    }
 
 -- ---- through both functions
 

@@ -1,17 +1,19 @@
 -- A list cut at the first of a byte; and the lines of a text, which are cut at LF.
 -- Assumes nothing.
 use mathlib.Core.Path.{_≡_, refl, sym, ap, _∙_}
+use mathlib.Core.Logic.{⊎-elim}
 use mathlib.Core.Bool.{Bool, true, false, cond}
 use mathlib.Core.List.{List, [], _∷_, _++_}
 use Prim.Native.Nat.{ℕ, suc, _+_, _-_, _≤_, _<_}
 use native.Mathlib.Numerals.{add-one}
 use native.Mathlib.Omega.{arith}
 use borrow.Author.Tests.{eqb-true}
-use lib.ListN.{length, take, drop, length-drop}
-use lib.Seq.{drop-drop, length-take-le}
+use lib.ListN.{length, take, drop, length-drop, drop-of-length-le}
+use lib.Seq.{drop-drop, length-take-le, take-all}
 use Rattle.lists.specs.Places.{place, hereOr}
 use Rattle.lists.specs.Bytes.{isByte}
 use Rattle.lists.specs.Lines.{LF, inFirst, linesIn}
+use Rattle.lists.proofs.Cases.{lt-or-le}
 use Rattle.lists.proofs.Places.{place-le, clean-before}
 use Rattle.lists.proofs.Laid.{to-end}
 
@@ -81,3 +83,16 @@ lines-last (b ∷ c ∷ line) some h = go (isByte LF b) h (lines-last (c ∷ lin
         → cond t ([] ∷ linesIn (c ∷ line)) (inFirst b (linesIn (c ∷ line))) ≡ (b ∷ c ∷ line) ∷ []
     go true k ih = absurd (omega arith)
     go false k ih = rw (ih (omega arith))
+
+-- the line at a place of a text, and those behind it
+pub lines-on : (text : List ℕ) (at n : ℕ) → n ≡ place (isByte LF) (take (length text - at) (drop at text)) → at < length text
+    → linesIn (drop at text) ≡ take n (drop at text) ∷ linesIn (drop (at + (n + 1)) text)
+unfolding linesIn
+lines-on text at n first there =
+    ⊎-elim
+    (λ (h : n < length text - at). ap linesIn (cut-on LF text at n first h) ∙ lines-front (take n (drop at text)) (drop (at + (n + 1)) text) (clean-on LF text at n first))
+    (λ (h : length text - at ≤ n).
+    let all : take n (drop at text) ≡ drop at text = take-all n (drop at text) (rw length-drop h) in
+    let none : drop (at + (n + 1)) text ≡ [] = drop-of-length-le text {i = at + (n + 1)} (omega arith) in
+    rw (all, none) (lines-last (drop at text) (rw length-drop (omega arith)) (clean-last LF text at n first h)))
+    (lt-or-le n (length text - at))

@@ -30,7 +30,7 @@ returns c =
     let number = at-number .field .ensures in (
       (ends (wordField refused) (field (a .refusal) LF) (word .0) (number .0 .0), omega (arith, word .0, number .0 .1)),
       rw (word .0, word .1) at (number .1) ∙ laid-behind out _ (wordField refused) (field (a .refusal) LF)
-      ∙ rw (from .lesser .ensures) (laid-least out (a .at) (wordField refused ++ field (a .refusal) LF)),
+          ∙ rw (from .lesser .ensures) (laid-least out (a .at) (wordField refused ++ field (a .refusal) LF)),
     )
 
 pub refused-spec : {M : Type 1} → statement M
