@@ -1,0 +1,3 @@
+pub mod Claims
+pub mod Comparing
+pub mod Promises
