@@ -80,6 +80,10 @@ none-wrong k line lines e = go (ltb k BYTES && isSuch (claimIn k line)) refl e
     go true is e = let h = both (ltb k BYTES) (isSuch (claimIn k line)) is in (ltb-true k BYTES (h .0), (h .1, e))
     go false is e = absurd (omega arith)
 
+pub within-bytes : (k : ℕ) (lines : List (List ℕ)) → wrongFrom k lines ≡ 0 → k ≤ BYTES
+within-bytes k [] e = omega (arith, none-missing k e)
+within-bytes k (line ∷ lines) e = omega (arith, none-wrong k line lines e .0)
+
 -- ---- what differs
 
 -- at the line of the k-th byte: what is laid so far, and what is left, make the whole
@@ -100,6 +104,10 @@ on-first file out good =
 module _ (file out₀ out : List ℕ) (at k used : ℕ) (on : On file out₀ out at k used) where
   pub on-long : length out ≡ length out₀
   on-long = ap length (on .so-far) ∙ length-laid out₀ 0 (on .done)
+
+  -- no more lines than bytes
+  pub on-bytes : k ≤ BYTES
+  on-bytes = within-bytes k (linesIn (drop at file)) (on .good)
 
   pub on-end : length file ≤ at → differencesFrom 0 (linesIn file) ≡ on .done
   unfolding differencesFrom

@@ -1,5 +1,5 @@
 -- "A program compares the table with the published one": it prints `256 agree`, or a line for each byte that doesn't.
-use Prim.Native.Nat.{ℕ, suc, _+_, _*_, _/_, _%_}
+use Prim.Native.Nat.{ℕ, suc, _+_, _*_, _/_, _%_, _≤_}
 use mathlib.Core.Bool.{cond, _&&_}
 use mathlib.Core.List.{List, [], _∷_, _++_}
 use lib.Dec.{eqb, ltb}
@@ -94,6 +94,12 @@ bufferBy NoRoom text out = out
 
 unfoldable pub comparedIn : List ℕ → List ℕ → List ℕ
 comparedIn file out = bufferBy (comparedFor file out) (textOf (linesIn file)) out
+
+-- what is answered fits
+abbrev pub ComparedFits : ℕ → Compared → Type 0
+ComparedFits room (Text n) = n ≤ room
+ComparedFits room (Wrong n) = Unit {0}
+ComparedFits room NoRoom = Unit {0}
 
 -- ---- what is said of a file that isn't such
 

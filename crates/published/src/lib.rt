@@ -15,7 +15,7 @@ ghost use Rattle.lists.specs.Lines.{linesIn};
 ghost use Rattle.codepage.specs.Points.{BYTES};
 ghost use Rattle.published.specs.Claims.{digitIn, pairIn, orElse, claimBehind, claimIn, isSuch, agrees};
 ghost use Rattle.published.specs.Comparing.{wrongFrom, pointText, ourText, theirText, DIFFERENCE-MAX, differenceOf, differencesFrom};
-ghost use Rattle.published.specs.Comparing.{COMPARED-MAX, comparedFor, comparedIn, WRONG-MAX, wrongLine};
+ghost use Rattle.published.specs.Comparing.{COMPARED-MAX, comparedFor, comparedIn, ComparedFits, WRONG-MAX, wrongLine};
 
 // The bytes that have an entry.
 const BYTES: usize = 256;
@@ -244,7 +244,7 @@ fn difference(out: &mut [u8], byte: u8, claim: Claim) -> usize
 // The lines of all that differ, in a file that is as it should be. Answers how many bytes they have.
 fn lay_differences(file: &[u8], out: &mut [u8]) -> usize
     requires { ⌜ (wrongFrom 0 (linesIn (now file)) ≡ 0) × (COMPARED-MAX ≤ length (now out)) ⌝ }
-    ensures { λ r. ⌜ r ≡ length (differencesFrom 0 (linesIn (now (file .entry)))) ⌝ }
+    ensures { λ r. ⌜ (r ≡ length (differencesFrom 0 (linesIn (now (file .entry))))) × (r ≤ COMPARED-MAX) ⌝ }
     ensures { λ _. ⌜ now (out .exit) ≡ laid (now (out .entry)) 0 (differencesFrom 0 (linesIn (now (file .entry)))) ⌝ }
 {
     let mut at = 0;
@@ -262,7 +262,7 @@ fn lay_differences(file: &[u8], out: &mut [u8]) -> usize
 
 // Compares our table with the published one.
 pub fn compare(file: &[u8], out: &mut [u8]) -> Compared
-    ensures { λ r. ⌜ r ≡ comparedFor (now (file .entry)) (now (out .entry)) ⌝ }
+    ensures { λ r. ⌜ (r ≡ comparedFor (now (file .entry)) (now (out .entry))) × ComparedFits COMPARED-MAX r ⌝ }
     ensures { λ _. ⌜ now (out .exit) ≡ comparedIn (now (file .entry)) (now (out .entry)) ⌝ }
 {
     if out.len() < COMPARED_MAX {

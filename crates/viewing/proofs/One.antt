@@ -11,10 +11,10 @@ use Rattle.viewing.proofs.say.Reads as say
 
 -- the buffer is the second parameter
 pub show-one : (κs : _) (a : _) (r r′ : _) (s s′ : _) → show.Post κs a r s → show.Post κs a r′ s′ → (r ≡ r′) × (now (s .1 .0) ≡ now (s′ .1 .0))
-show-one κs a r r′ s s′ p q = (same (p .0) (q .0), same (p .1) (q .1))
+show-one κs a r r′ s s′ p q = (same (p .0 .0) (q .0 .0), same (p .1) (q .1))
 
 pub gather-one : (κs : _) (a : _) (r r′ : _) (s s′ : _) → gather.Post κs a r s → gather.Post κs a r′ s′ → (r ≡ r′) × (now (s .1 .0) ≡ now (s′ .1 .0))
-gather-one κs a r r′ s s′ p q = (same (p .0) (q .0), same (p .1) (q .1))
+gather-one κs a r r′ s s′ p q = (same (p .0 .0) (q .0 .0), same (p .1) (q .1))
 
 pub line-at-one : (κs : _) (a : _) (r r′ : _) (s s′ : _) → line-at.Post κs a r s → line-at.Post κs a r′ s′ → r ≡ r′
 line-at-one κs a r r′ s s′ p q = same p q

@@ -1,5 +1,5 @@
 -- A listener list, as the viewer shows it: "prints each name of a listener list [..] as a line of UTF-8".
-use Prim.Native.Nat.{ℕ, _*_}
+use Prim.Native.Nat.{ℕ, _*_, _≤_}
 use mathlib.Core.Bool.{cond, not}
 use mathlib.Core.List.{List, [], _∷_, _++_}
 use mathlib.Core.Option.{Option, none, some}
@@ -48,3 +48,9 @@ bufferBy NoRoom lines out = out
 
 unfoldable pub shownIn : List ℕ → List ℕ → List ℕ
 shownIn list out = bufferBy (shownFor list out) (nameLines (names list)) out
+
+-- what is answered fits
+abbrev pub ShownFits : ℕ → Shown → Type 0
+ShownFits room (Lines n) = n ≤ room
+ShownFits room Outside = Unit {0}
+ShownFits room NoRoom = Unit {0}

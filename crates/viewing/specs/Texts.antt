@@ -1,5 +1,5 @@
 -- Lines of UTF-8, as the viewer takes them back: "writes a list again, each name and a zero byte".
-use Prim.Native.Nat.{ℕ, zero, suc, _+_, min}
+use Prim.Native.Nat.{ℕ, zero, suc, _+_, _≤_, min}
 use mathlib.Core.Bool.{Bool, true, false, cond, not}
 use mathlib.Core.List.{List, [], _∷_, _++_}
 use lib.Dec.{eqb, ltb, leb}
@@ -64,6 +64,12 @@ bufferBy NoRoom list out = out
 
 unfoldable pub gatheredIn : List ℕ → List ℕ → List ℕ
 gatheredIn text out = bufferBy (gatheredFor text out) (entriesOf (linesIn text)) out
+
+-- what is answered fits
+abbrev pub GatheredFits : ℕ → Gathered → Type 0
+GatheredFits room (Bytes n) = n ≤ room
+GatheredFits room TooLong = Unit {0}
+GatheredFits room NoRoom = Unit {0}
 
 -- ---- what is said of a line that is left out
 

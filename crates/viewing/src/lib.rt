@@ -18,8 +18,8 @@ ghost use Rattle.lists.specs.Bytes.{laid};
 ghost use Rattle.lists.specs.Lines.{linesIn};
 ghost use Rattle.lines.specs.Lines.{REFUSED-MAX};
 ghost use Rattle.listeners.specs.Listeners.{names, goodList};
-ghost use Rattle.viewing.specs.Lists.{LINES-MAX, nameLine, nameLines, shownFor, shownIn};
-ghost use Rattle.viewing.specs.Texts.{TEXT-MAX, verdictOn, isKept, entryOf, entriesOf, gatheredFor, gatheredIn};
+ghost use Rattle.viewing.specs.Lists.{LINES-MAX, nameLine, nameLines, shownFor, shownIn, ShownFits};
+ghost use Rattle.viewing.specs.Texts.{TEXT-MAX, verdictOn, isKept, entryOf, entriesOf, gatheredFor, gatheredIn, GatheredFits};
 ghost use Rattle.viewing.specs.Texts.{SAY-MAX, reasonFor, leftOutLine, lineAt};
 
 // The most bytes of all lines of a list: for each of its bytes at most six.
@@ -88,7 +88,7 @@ fn name_line(name: &[u8], out: &mut [u8], at: usize) -> usize
 // The lines of a good list, at the front. Answers how many bytes they have.
 fn lay_lines(list: &[u8], out: &mut [u8]) -> usize
     requires { ⌜ (goodList (now list) ≡ true) × (LINES-MAX ≤ length (now out)) ⌝ }
-    ensures { λ r. ⌜ r ≡ length (nameLines (names (now (list .entry)))) ⌝ }
+    ensures { λ r. ⌜ (r ≡ length (nameLines (names (now (list .entry))))) × (r ≤ LINES-MAX) ⌝ }
     ensures { λ _. ⌜ now (out .exit) ≡ laid (now (out .entry)) 0 (nameLines (names (now (list .entry)))) ⌝ }
 {
     let mut at = 0;
@@ -103,7 +103,7 @@ fn lay_lines(list: &[u8], out: &mut [u8]) -> usize
 
 // Shows a list: a line for each of its names.
 pub fn show(list: &[u8], out: &mut [u8]) -> Shown
-    ensures { λ r. ⌜ r ≡ shownFor (now (list .entry)) (now (out .entry)) ⌝ }
+    ensures { λ r. ⌜ (r ≡ shownFor (now (list .entry)) (now (out .entry))) × ShownFits LINES-MAX r ⌝ }
     ensures { λ _. ⌜ now (out .exit) ≡ shownIn (now (list .entry)) (now (out .entry)) ⌝ }
 {
     if out.len() < LINES_MAX {
@@ -164,7 +164,7 @@ fn entry(line: &[u8], out: &mut [u8], at: usize) -> usize
 // The list of a text, at the front. Answers how many bytes it has.
 fn lay_list(text: &[u8], out: &mut [u8]) -> usize
     requires { ⌜ length (now text) < length (now out) ⌝ }
-    ensures { λ r. ⌜ r ≡ length (entriesOf (linesIn (now (text .entry)))) ⌝ }
+    ensures { λ r. ⌜ (r ≡ length (entriesOf (linesIn (now (text .entry))))) × (r ≤ length (now (text .entry)) + 1) ⌝ }
     ensures { λ _. ⌜ now (out .exit) ≡ laid (now (out .entry)) 0 (entriesOf (linesIn (now (text .entry)))) ⌝ }
 {
     let mut at = 0;
@@ -179,7 +179,7 @@ fn lay_list(text: &[u8], out: &mut [u8]) -> usize
 
 // Gathers the list of a text: each name and a zero byte.
 pub fn gather(text: &[u8], out: &mut [u8]) -> Gathered
-    ensures { λ r. ⌜ r ≡ gatheredFor (now (text .entry)) (now (out .entry)) ⌝ }
+    ensures { λ r. ⌜ (r ≡ gatheredFor (now (text .entry)) (now (out .entry))) × GatheredFits (TEXT-MAX + 1) r ⌝ }
     ensures { λ _. ⌜ now (out .exit) ≡ gatheredIn (now (text .entry)) (now (out .entry)) ⌝ }
 {
     if TEXT_MAX < text.len() {

@@ -14,7 +14,7 @@ use Rattle.published.proofs.compare.Tie as tie
 
 returns : tie.Need-returns
 unfolding comparedFor comparedIn COMPARED-MAX
-returns c = rw (lt-ltb (length (now (c .before .before .before .args .out))) COMPARED-MAX (c .if1 .taken)) (refl, refl)
+returns c = rw (lt-ltb (length (now (c .before .before .before .args .out))) COMPARED-MAX (c .if1 .taken)) ((refl, tt), refl)
 
 returns-2 : tie.Need-returns-2
 unfolding comparedFor comparedIn COMPARED-MAX
@@ -27,7 +27,7 @@ returns-2 c =
       le-ltb (length (now (a .out))) COMPARED-MAX (asked .before .if1 .left),
       is,
       ne-eqb (asked .wrong-line .result) 0 (c .if2 .taken),
-    ) (refl, refl)
+    ) ((refl, tt), refl)
 
 -- the file is as it should be, and there is room
 good : (c : tie.After-lay-differences-arg) → let asked = c .before .before in
@@ -45,16 +45,16 @@ returns-3 c =
     let g = good (did .before) in
     let a = did .before .before .before .before .before .before .before .args in
     let lines = linesIn (now (a .file)) in
-    let text = some-differ lines (λ e. omega (arith, c .if3 .taken, did .lay-differences .ensures .0, e)) in
+    let text = some-differ lines (λ e. omega (arith, c .if3 .taken, did .lay-differences .ensures .0 .0, e)) in
     rw (
       le-ltb (length (now (a .out))) COMPARED-MAX (g .1),
       eq-eqb (wrongFrom 0 lines) 0 (g .0),
       text,
-      did .lay-differences .ensures .0,
-    ) (refl, did .lay-differences .ensures .1)
+      did .lay-differences .ensures .0 .0,
+    ) ((refl, omega (arith, did .lay-differences .ensures .0)), did .lay-differences .ensures .1)
 
 returns-4 : tie.Need-returns-4
-unfolding comparedFor comparedIn
+unfolding comparedFor comparedIn COMPARED-MAX
 returns-4 c =
     let wrote = c .before .before in
     let tested = wrote .before .before .before in
@@ -63,14 +63,14 @@ returns-4 c =
     let a = did .before .before .before .before .before .before .before .args in
     let lines = linesIn (now (a .file)) in
     let none : length (differencesFrom 0 lines) ≡ 0 =
-    omega (arith, tested .if3 .left, did .lay-differences .ensures .0) in
+    omega (arith, tested .if3 .left, did .lay-differences .ensures .0 .0) in
     let same = did .lay-differences .ensures .1 ∙ none-laid (now (a .out)) (differencesFrom 0 lines) none in
     rw (
       le-ltb (length (now (a .out))) COMPARED-MAX (g .1),
       eq-eqb (wrongFrom 0 lines) 0 (g .0),
       all-agree lines none,
       wrote .text .ensures .0,
-    ) (refl, wrote .text .ensures .1 ∙ rw same)
+    ) ((refl, omega arith), wrote .text .ensures .1 ∙ rw same)
 
 pub compare-spec : {M : Type 1} → statement M
 compare-spec =

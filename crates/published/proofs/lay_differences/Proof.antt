@@ -9,7 +9,7 @@ use lib.ListN.{length}
 use Rattle.lists.proofs.Laid.{back-end}
 use Rattle.codepage.specs.Points.{BYTES}
 use Rattle.published.specs.Comparing.{DIFFERENCE-MAX, COMPARED-MAX}
-use Rattle.published.proofs.Files.{On, on-first, on-long, on-end, on-byte, on-next, line-there}
+use Rattle.published.proofs.Files.{On, on-first, on-long, on-bytes, on-end, on-byte, on-next, line-there}
 use Rattle.published.proofs.lay_differences.Statement.{statement}
 use Rattle.published.proofs.lay_differences.Tie as tie
 
@@ -75,11 +75,12 @@ same-length c =
     on-long _ _ (l .out) (l .at) (l .k) (l .used) (l .inv)
 
 returns : tie.Need-returns Inv-loop μ-loop
+unfolding COMPARED-MAX
 returns c =
     let l = c .before .loop in
     let a = c .before .before .before .before .args in
     let all = on-end (now (a .file)) (now (a .out)) (l .out) (l .at) (l .k) (l .used) (l .inv) (omega (arith, c .loop-test .left)) in
-    rw all (l .inv .used-is, l .inv .so-far)
+    rw all ((l .inv .used-is, omega (arith, l .inv .few, on-bytes _ _ (l .out) (l .at) (l .k) (l .used) (l .inv))), l .inv .so-far)
 
 pub lay-differences-spec : {M : Type 1} → statement M
 lay-differences-spec =

@@ -13,20 +13,23 @@ returns : tie.Need-returns
 unfolding gatheredFor gatheredIn TEXT-MAX
 returns c =
     let text = now (c .before .before .before .args .text) in
-    rw (lt-ltb TEXT-MAX (length text) (c .if1 .taken)) (refl, refl)
+    rw (lt-ltb TEXT-MAX (length text) (c .if1 .taken)) ((refl, tt), refl)
 
 returns-2 : tie.Need-returns-2
 unfolding gatheredFor gatheredIn TEXT-MAX
 returns-2 c =
     let a = c .before .before .before .before .args in
-    rw (le-ltb TEXT-MAX (length (now (a .text))) (c .before .if1 .left), le-leb (length (now (a .out))) TEXT-MAX (c .if2 .taken)) (refl, refl)
+    rw (le-ltb TEXT-MAX (length (now (a .text))) (c .before .if1 .left), le-leb (length (now (a .out))) TEXT-MAX (c .if2 .taken)) ((refl, tt), refl)
 
 returns-3 : tie.Need-returns-3
 unfolding gatheredFor gatheredIn TEXT-MAX
 returns-3 c =
     let did = c .before .before in
     let tested = did .before .before in
-    rw (le-ltb _ _ (tested .before .if1 .left), lt-leb _ _ (tested .if2 .left), did .lay-list .ensures .0) (refl, did .lay-list .ensures .1)
+    rw (le-ltb _ _ (tested .before .if1 .left), lt-leb _ _ (tested .if2 .left), did .lay-list .ensures .0 .0) (
+      (refl, omega (arith, did .lay-list .ensures .0 .1, tested .before .if1 .left)),
+      did .lay-list .ensures .1,
+    )
 
 pub gather-spec : {M : Type 1} → statement M
 gather-spec =

@@ -104,11 +104,14 @@ same-length c =
     on-long lines _ (l .at) _ (l .out) (l .used) (l .inv .on)
 
 returns : tie.Need-returns Inv-loop μ-loop
+unfolding LINES-MAX
 returns c =
     let l = c .before .loop in
-    let a = c .before .before .before .before .args in
+    let start = c .before .before .before .before in
+    let a = start .args in
+    let short = short-names (now (a .list)) (start .pre .0) .0 in
     let all = on-end lines (now (a .list)) (l .at) (now (a .out)) (l .out) (l .used) (l .inv .on) no-names (omega (arith, c .loop-test .left)) in
-    rw all (l .inv .on .used-is, l .inv .on .so-far)
+    rw all ((l .inv .on .used-is, omega (arith, l .inv .few, l .inv .within, short)), l .inv .on .so-far)
 
 pub lay-lines-spec : {M : Type 1} → statement M
 lay-lines-spec =

@@ -103,7 +103,7 @@ returns c =
     let l = c .before .loop in
     let a = c .before .before .before .before .args in
     let all = on-end entries (now (a .text)) (l .at) (now (a .out)) (l .out) (l .used) (l .inv .0) no-lines (omega (arith, c .loop-test .left)) in
-    rw all (l .inv .0 .used-is, l .inv .0 .so-far)
+    rw all ((l .inv .0 .used-is, omega (arith, l .inv .1)), l .inv .0 .so-far)
 
 pub lay-list-spec : {M : Type 1} → statement M
 lay-list-spec =

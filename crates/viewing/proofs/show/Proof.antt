@@ -10,13 +10,13 @@ use Rattle.viewing.proofs.show.Tie as tie
 
 returns : tie.Need-returns
 unfolding shownFor shownIn LINES-MAX LIST-MAX
-returns c = rw (lt-ltb _ _ (c .if1 .taken)) (refl, refl)
+returns c = rw (lt-ltb _ _ (c .if1 .taken)) ((refl, tt), refl)
 
 returns-2 : tie.Need-returns-2
 unfolding shownFor shownIn LINES-MAX LIST-MAX
 returns-2 c =
     let asked = c .before in
-    rw (le-ltb _ _ (asked .before .if1 .left), sym (asked .good2 .ensures) ∙ not-true _ (c .if2 .taken)) (refl, refl)
+    rw (le-ltb _ _ (asked .before .if1 .left), sym (asked .good2 .ensures) ∙ not-true _ (c .if2 .taken)) ((refl, tt), refl)
 
 lay-lines-requires : tie.Need-lay-lines-requires
 unfolding LINES-MAX LIST-MAX
@@ -33,8 +33,8 @@ returns-3 c =
     rw (
       le-ltb _ _ (asked .before .if1 .left),
       sym (asked .good2 .ensures) ∙ not-false _ (tested .if2 .left),
-      did .lay-lines .ensures .0,
-    ) (refl, did .lay-lines .ensures .1)
+      did .lay-lines .ensures .0 .0,
+    ) ((refl, omega (arith, did .lay-lines .ensures .0)), did .lay-lines .ensures .1)
 
 pub show-spec : {M : Type 1} → statement M
 show-spec = tie.close (tie.spec returns (λ c κs. search needs) returns-2 lay-lines-requires (λ c. search needs) returns-3)
