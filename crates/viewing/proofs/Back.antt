@@ -128,7 +128,7 @@ lines-back (line ∷ lines) all =
 -- ---- what is said, line by line
 
 -- at a place of a text
-line-on : (text : List ℕ) (at : ℕ) → at < length text
+pub line-on : (text : List ℕ) (at : ℕ) → at < length text
     → (linesIn (drop at text) ≡ firstLine (drop at text) ∷ linesIn (drop (lineAt text at .next) text)) × (at < lineAt text at .next)
 unfolding lineAt firstLine
 line-on text at there =

@@ -4,10 +4,14 @@
 use mathlib.Core.Path.{_≡_}
 use denote.Ref.{now}
 use Rattle.lists.proofs.Cases.{same}
+use Rattle.viewing.proofs.asked.Reads as asked
 use Rattle.viewing.proofs.show.Reads as show
 use Rattle.viewing.proofs.gather.Reads as gather
 use Rattle.viewing.proofs.line_at.Reads as line-at
 use Rattle.viewing.proofs.say.Reads as say
+
+pub asked-one : (κs : _) (a : _) (r r′ : _) (s s′ : _) → asked.Post κs a r s → asked.Post κs a r′ s′ → r ≡ r′
+asked-one κs a r r′ s s′ p q = same p q
 
 -- the buffer is the second parameter
 pub show-one : (κs : _) (a : _) (r r′ : _) (s s′ : _) → show.Post κs a r s → show.Post κs a r′ s′ → (r ≡ r′) × (now (s .1 .0) ≡ now (s′ .1 .0))

@@ -1,3 +1,4 @@
+pub mod Ways
 pub mod Lists
 pub mod Texts
 pub mod Promises

@@ -4,7 +4,7 @@
 // each name with its zero byte; lines that can't stand in a list are left out. Each takes any bytes, and needs a buffer for the longest
 // that there can be, `LINES_MAX` or more than `TEXT_MAX` bytes; whatever it doesn't answer with a length leaves the buffer as it was.
 // `line_at` gives the verdict on the line at a place of a text and where the next begins, and `say` lays what is said of one that is left
-// out.
+// out. `asked` tells which of the two a word asks for.
 use codepage::Converted;
 use lines::FIELD_MAX;
 use lines::REFUSED_MAX;
@@ -18,6 +18,7 @@ ghost use Rattle.lists.specs.Bytes.{laid};
 ghost use Rattle.lists.specs.Lines.{linesIn};
 ghost use Rattle.lines.specs.Lines.{REFUSED-MAX};
 ghost use Rattle.listeners.specs.Listeners.{names, goodList};
+ghost use Rattle.viewing.specs.Ways.{wayBy};
 ghost use Rattle.viewing.specs.Lists.{LINES-MAX, nameLine, nameLines, shownFor, shownIn, ShownFits};
 ghost use Rattle.viewing.specs.Texts.{TEXT-MAX, verdictOn, isKept, entryOf, entriesOf, gatheredFor, gatheredIn, GatheredFits};
 ghost use Rattle.viewing.specs.Texts.{SAY-MAX, reasonFor, leftOutLine, lineAt};
@@ -33,6 +34,15 @@ pub const SAY_MAX: usize = 26 + FIELD_MAX + REFUSED_MAX;
 
 // The byte that ends a line.
 const LF: u8 = b'\n';
+
+// What is asked for.
+pub enum Way {
+    // A list as lines of UTF-8.
+    ToUtf8,
+    // Lines of UTF-8 as a list.
+    ToList,
+    Unknown,
+}
 
 // What comes of a list.
 pub enum Shown {
@@ -68,6 +78,21 @@ pub struct Line {
     pub verdict: Verdict,
     // Where the next line begins.
     pub next: usize,
+}
+
+// ---- what is asked for
+
+// The way that a word asks for: `utf8` or `1252`.
+pub fn asked(word: &[u8]) -> Way
+    ensures { λ r. ⌜ r ≡ wayBy (now (word .entry)) ⌝ }
+{
+    if check::same(word, b"utf8") {
+        return Way::ToUtf8;
+    }
+    if check::same(word, b"1252") {
+        return Way::ToList;
+    }
+    Way::Unknown
 }
 
 // ---- a list as lines
