@@ -1,6 +1,6 @@
 /*
  * Immuskade for a host in C or C++: dynamic virtual channels of [MS-RDPEDYC], client end and shore end, uncompressed; the
- * cutter; strict reading for firewalls.
+ * cutter; strict reading for firewalls; listener names in UTF-8, for log viewers.
  *
  * Link target/staticlib/libimmuskade.a, which `host/archive` makes and `host/install PREFIX` puts under a prefix. It needs no
  * library but C's own.
@@ -71,7 +71,7 @@ extern "C" {
  *
  * No answer is 0. The functions below take an answer apart. dvc_cut, dvc_strict and the two Starts answer 32 bits of their own:
  * theirs are dvc_refused, dvc_pdu_len and dvc_next_offset further down, and no function of one kind is for an answer of
- * the other.
+ * the other. dvc_name_to_utf8 and dvc_name_from_utf8 answer a length, or less than 0.
  */
 
 /* The words, with what dvc_number gives. */
@@ -182,6 +182,8 @@ static inline uint32_t dvc_messages(uint64_t answer)
 #define DVC_ALL_TAKEN 15     /* a local open, and sixteen numbers are open or awaited */
 #define DVC_NOT_AWAITED 16   /* a Create response for a number that isn't awaited */
 #define DVC_LOOSE 18         /* strict reading: a number or Length in a wider width than it needs, or ignored bits that are not 0 */
+#define DVC_NO_PARTNER 19    /* names: a byte that has no code point, a code point that has no byte, or UTF-8 that isn't well formed */
+#define DVC_NO_ROOM 20       /* names: the result is longer than the buffer that was lent */
 
 /* What dvc_cut calls 1: out_len is below 1,600. */
 #define DVC_WRONG_SIZE DVC_BAD_CALL
@@ -336,6 +338,27 @@ static inline size_t dvc_next_offset(uint32_t answer)
  * accepts is read by the manager too, with the same values, and no other bytes that it accepts in that direction have these values.
  */
 uint32_t dvc_strict(const uint8_t *pdu, size_t pdu_len, uint32_t from_server);
+
+/* ---- listener names, for a log viewer */
+
+/*
+ * A listener's name, which is Windows-1252 as the channels take it, in UTF-8; and a text of UTF-8 as such a name. What either call
+ * writes the other makes into what it was.
+ *
+ *   name, name_len   any bytes of any length. A zero byte is converted as any other
+ *   text, text_len   likewise
+ *   out, out_len     for the result. A name's UTF-8 has at most three bytes for each of its own, and a text's name at most as many as
+ *                    the text
+ *
+ * The answer is how many bytes of out are the result's, from its front; the bytes behind them stay. An answer below 0 is a refusal,
+ * minus its number: -19, looked for in all of the input first, or -20. Then every byte of out stays.
+ *
+ *   19   a byte 81, 8D, 8F, 90 or 9D (hexadecimal) of a name; of a text, UTF-8 that isn't well formed (an overlong form, a surrogate,
+ *        a byte that stands alone, an end cut off, anything over 10FFFF), or a code point that has no byte
+ *   20   out is shorter than the result
+ */
+int64_t dvc_name_to_utf8(const uint8_t *name, size_t name_len, uint8_t *out, size_t out_len);
+int64_t dvc_name_from_utf8(const uint8_t *text, size_t text_len, uint8_t *out, size_t out_len);
 
 #ifdef __cplusplus
 }
