@@ -13,7 +13,7 @@ use Rattle.lists.specs.Places.{place}
 use Rattle.lists.proofs.Cases.{both, lt-or-le, true-not-false}
 use Rattle.lists.proofs.Places.{place-passes}
 use Rattle.codepage.specs.Points.{NONE, BYTES, points, isFive, pointOf, pointFor, isEntry, found, byteFor}
-use Rattle.codepage.proofs.Entries.{every, at-each}
+use Rattle.codepage.proofs.Entries.{every, at-each, entry-there}
 
 -- ---- the test
 
@@ -67,6 +67,11 @@ entry k h =
     let c = both (fiveThere k x) (plainThere k x && noControl k x) (b .1) in
     let d = both (plainThere k x) (noControl k x) (c .1) in
     record { same-there = a .0; only-there = b .0; five-there = c .0; plain-there = d .0; no-control = d .1 }
+
+-- as the code reads it, with 0 where nothing stands
+pub entry-read : (k : ℕ) → k < BYTES → getD points k 0 ≡ pointOf k
+unfolding pointOf
+entry-read k h = entry-there points k 0 NONE (rw size h)
 
 pub low-same : (k : ℕ) → k < 0x80 → pointOf k ≡ k
 low-same k h = eqb-true (pointOf k) k (rw (lt-ltb k 0x80 h) at (entry k (omega arith) .same-there))

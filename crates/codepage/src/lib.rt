@@ -16,7 +16,7 @@ ghost use mathlib.Core.List.{[], _∷_};
 ghost use Prim.Native.Nat.{_+_, _≤_, _<_};
 ghost use lib.ListN.{length, drop, getD};
 ghost use Rattle.lists.specs.Bytes.{laid};
-ghost use Rattle.codepage.specs.Points.{NONE, pointOf, byteFor};
+ghost use Rattle.codepage.specs.Points.{NONE, points, pointOf, byteFor};
 ghost use Rattle.codepage.specs.Utf8.{TAIL, isIn, pointIn, sequenceOf};
 ghost use Rattle.codepage.specs.Names.{utf8Of, nameOf, isSome, resultOf, frontBy, frontOf};
 ghost use Rattle.codepage.specs.Names.{isOver, answerFor, bufferFor, roomAfter, sizeOf, Countable, numberFor};
@@ -52,11 +52,19 @@ enum Front {
     Nothing,
 }
 
+// The entry of a byte in the table: its code point, or `NONE`. Each use of a constant copies it whole, so a loop takes the table once.
+fn entry(table: &[u16], byte: u8) -> u16
+    requires { ⌜ now table ≡ points ⌝ }
+    ensures { λ r. ⌜ r ≡ pointOf byte ⌝ }
+{
+    table[byte as usize]
+}
+
 // The entry of a byte: its code point, or `NONE`.
 pub fn point_of(byte: u8) -> u16
     ensures { λ r. ⌜ r ≡ pointOf byte ⌝ }
 {
-    POINTS[byte as usize]
+    entry(&POINTS, byte)
 }
 
 // ---- to UTF-8
@@ -65,9 +73,10 @@ pub fn point_of(byte: u8) -> u16
 fn has_points(name: &[u8]) -> bool
     ensures { λ r. ⌜ r ≡ isSome (utf8Of (now (name .entry))) ⌝ }
 {
+    let table = POINTS;
     let mut i = 0;
     while i < name.len() {
-        if point_of(name[i]) == NONE {
+        if entry(&table, name[i]) == NONE {
             return false;
         }
         i += 1;
@@ -93,10 +102,11 @@ fn room_after(name: &[u8], room: usize) -> Room
     requires { ⌜ isSome (utf8Of (now name)) ≡ true ⌝ }
     ensures { λ r. ⌜ r ≡ roomAfter (utf8Of (now (name .entry))) room ⌝ }
 {
+    let table = POINTS;
     let mut left = room;
     let mut i = 0;
     while i < name.len() {
-        let n = width(point_of(name[i]));
+        let n = width(entry(&table, name[i]));
         if left < n {
             return Room::Short;
         }
@@ -133,10 +143,11 @@ fn write_utf8(name: &[u8], out: &mut [u8])
     requires { ⌜ isOver (resultOf (utf8Of (now name))) (now out) ≡ false ⌝ }
     ensures { λ _. ⌜ now (out .exit) ≡ laid (now (out .entry)) 0 (resultOf (utf8Of (now (name .entry)))) ⌝ }
 {
+    let table = POINTS;
     let mut i = 0;
     let mut at = 0;
     while i < name.len() {
-        at += lay(out, at, point_of(name[i]));
+        at += lay(out, at, entry(&table, name[i]));
         i += 1;
     }
 }
@@ -163,9 +174,10 @@ fn among(point: u16, width: usize) -> Front
     requires { ⌜ (0x100 ≤ point) × (point < NONE) ⌝ }
     ensures { λ r. ⌜ r ≡ frontBy (byteFor point) width ⌝ }
 {
+    let table = POINTS;
     let mut byte: u8 = 0x80;
     while byte < 0xA0 {
-        if point_of(byte) == point {
+        if entry(&table, byte) == point {
             return Front::Byte { byte, width };
         }
         byte += 1;

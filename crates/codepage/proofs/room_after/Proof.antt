@@ -1,5 +1,5 @@
 -- `codepage::room_after` meets its contract: what is left of the room is what the sequences so far leave of it.
-use mathlib.Core.Path.{_≡_, sym}
+use mathlib.Core.Path.{_≡_, refl, sym}
 use mathlib.Core.List.{_++_}
 use Prim.Native.Nat.{_+_, _-_, _<_}
 use denote.Ref.{now}
@@ -7,6 +7,7 @@ use borrow.Author.Tests.{lt-ltb, le-ltb}
 use lib.ListN.{length, length-append}
 use borrow.Author.Needs.{needs}
 use native.Mathlib.Omega.{arith}
+use Rattle.codepage.specs.Points.{points}
 use Rattle.codepage.specs.Utf8.{sequenceOf}
 use Rattle.codepage.specs.Names.{utf8Of, resultOf}
 use Rattle.codepage.proofs.Leads.{Leads, leads-first, leads-front, leads-end, On}
@@ -16,30 +17,34 @@ use Rattle.codepage.proofs.room_after.Statement.{statement}
 use Rattle.codepage.proofs.room_after.Tie as tie
 
 abbrev Inv-loop : tie.InvT-loop
-Inv-loop name room left₀ i₀ left i = (on : On utf8Of name i) × (left + length (on .done) ≡ room)
+Inv-loop name room table left₀ i₀ left i = (on : On utf8Of name i) × (left + length (on .done) ≡ room)
 
 abbrev μ-loop : tie.MeasureT-loop
-μ-loop name room left₀ i₀ left i = length name - i
+μ-loop name room table left₀ i₀ left i = length name - i
+
+entry-requires : tie.Need-entry-requires Inv-loop μ-loop
+unfolding points
+entry-requires c κs = refl
 
 loop-holds : tie.Need-loop-holds Inv-loop μ-loop
 loop-holds c = (record { done = _; leads = leads-first utf8Of (now (c .before .args .name)) }, omega arith)
 
 -- one sequence more
-next : (c : tie.After-point-of Inv-loop μ-loop) → let l = c .before .before .before .loop in
-    Leads utf8Of (now (c .before .before .before .before .before .args .name)) (l .i + 1) (l .inv .0 .done ++ sequenceOf (c .point-of .result))
+next : (c : tie.After-entry Inv-loop μ-loop) → let l = c .before .before .before .before .loop in
+    Leads utf8Of (now (c .before .before .before .before .before .before .args .name)) (l .i + 1) (l .inv .0 .done ++ sequenceOf (c .entry .result))
 next c =
-    let test = c .before .before in
+    let test = c .before .before .before in
     let l = test .before .loop in
     let start = test .before .before .before in
-    byte-sure (now (start .args .name)) (l .i) (test .loop-test .taken) (l .inv .0 .done) (l .inv .0 .leads) _ (c .point-of .ensures) (start .pre)
+    byte-sure (now (start .args .name)) (l .i) (test .loop-test .taken) (l .inv .0 .done) (l .inv .0 .leads) _ (c .entry .ensures) (start .pre)
 
 returns : tie.Need-returns Inv-loop μ-loop
 returns c =
     let found = c .before .before in
-    let l = found .before .before .before .loop in
-    let start = found .before .before .before .before .before in
+    let l = found .before .before .before .before .loop in
+    let start = found .before .before .before .before .before .before in
     let name = now (start .args .name) in
-    let longer = length-append (l .inv .0 .done) (sequenceOf (found .point-of .result)) in
+    let longer = length-append (l .inv .0 .done) (sequenceOf (found .entry .result)) in
     let front = leads-front utf8Of name (l .i + 1) _ (next found) (start .pre) in
     let over : start .args .room < length (resultOf (utf8Of name)) =
     omega (arith, c .if1 .taken, c .before .width .ensures, l .inv .1, longer, front) in
@@ -48,8 +53,8 @@ returns c =
 loop-again : tie.Need-loop-again Inv-loop μ-loop
 loop-again c =
     let found = c .before .before in
-    let l = found .before .before .before .loop in
-    let longer = length-append (l .inv .0 .done) (sequenceOf (found .point-of .result)) in
+    let l = found .before .before .before .before .loop in
+    let longer = length-append (l .inv .0 .done) (sequenceOf (found .entry .result)) in
     (record { done = _; leads = next found }, omega (arith, c .if1 .left, c .before .width .ensures, l .inv .1, longer))
 
 returns-2 : tie.Need-returns-2 Inv-loop μ-loop
@@ -65,5 +70,5 @@ pub room-after-spec : {M : Type 1} → statement M
 room-after-spec =
     tie.close
     (tie.spec
-    Inv-loop μ-loop loop-holds (λ c. search needs) (λ c κs. search needs) (λ c κs. search needs) returns (λ c. search needs)
+    Inv-loop μ-loop loop-holds (λ c. search needs) (λ c. search needs) entry-requires (λ c κs. search needs) returns (λ c. search needs)
     (λ c. search needs) loop-again returns-2)
