@@ -208,7 +208,8 @@ def every_point():
 
 def viewer(seed, program):
     r = random.Random(seed)
-    lists = [a_list(r) for _ in range(300)] + [bytes([b, 0]) for b in range(256)] + [bytes(r.choice(BYTES) or 1 for _ in range(n)) + b"\0" for n in range(500, 520)]
+    lists = [a_list(r) for _ in range(300)] + [bytes([b, 0]) for b in range(256)]
+    lists += [bytes(r.choice(BYTES) or 1 for _ in range(n)) + b"\0" for n in range(LIST_MAX - 12, LIST_MAX + 8)]
     lines = [some_lines(r) for _ in range(300)] + list(every_point())
     lines += [b"x" * n for n in range(TEXT_MAX - 2, TEXT_MAX + 3)] + [b"\n" * TEXT_MAX, b"A\n" * (TEXT_MAX // 2), b"A\n" * (TEXT_MAX // 2) + b"A"]
     for given in lists:
