@@ -15,7 +15,6 @@ use Rattle.paper.specs.declared.Refusal.{Refusal}
 use Rattle.paper.specs.declared.Refusal.the-variants.{NoPartner, NoRoom}
 use Rattle.codepage.specs.declared.Converted.{Converted}
 use Rattle.codepage.specs.declared.Converted.the-variants.{Length, Refused}
-use Rattle.codepage.specs.declared.Room.{Room}
 use Rattle.codepage.specs.declared.Room.the-variants.{Left, Short}
 use Rattle.codepage.specs.declared.Size.the-variants.{Bytes, NoResult}
 use Rattle.codepage.specs.Names.{isSome, resultOf, answerFor, bufferFor, roomAfter, sizeOf, Countable}

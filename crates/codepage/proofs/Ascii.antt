@@ -1,25 +1,23 @@
 -- A byte below 80 (hexadecimal) stands in a name exactly if it stands in its UTF-8.
 -- Assumes nothing.
-use mathlib.Core.Path.{_≡_, refl, sym, ap, _∙_}
+use mathlib.Core.Path.{_≡_, refl, sym, _∙_}
 use mathlib.Core.Logic.{⊎-elim}
 use mathlib.Core.Bool.{Bool, true, false}
 use mathlib.Core.List.{List, [], _∷_, _++_}
-use mathlib.Core.Option.{Option, none, some}
-use Prim.Native.Nat.{ℕ, suc, _+_, _/_, _%_, _≤_, _<_}
+use mathlib.Core.Option.{some}
+use Prim.Native.Nat.{ℕ, suc, _+_, _≤_, _<_}
 use native.Mathlib.Omega.{arith}
-use borrow.Author.Tests.{eqb-true, eqb-false, ne-eqb}
-use lib.Dec.{eqb}
+use borrow.Author.Tests.{eqb-false, ne-eqb}
 use lib.ListN.{length}
 use Rattle.lists.specs.Bytes.{isByte}
 use Rattle.lists.specs.Places.{place, hereOr}
 use Rattle.lists.proofs.Cases.{lt-or-le}
-use Rattle.codepage.specs.Points.{pointFor, byteFor}
+use Rattle.codepage.specs.Points.{pointFor}
 use Rattle.codepage.specs.Utf8.{sequenceOf, spelled}
 use Rattle.codepage.specs.Names.{partners, utf8Of}
-use Rattle.codepage.specs.Promises.{Same}
 use Rattle.codepage.proofs.Points.{low-same, own-byte, point-partners, partners-byte, partners-plain}
 use Rattle.codepage.proofs.Bits.{one-byte, two-bytes, three-bytes}
-use Rattle.codepage.proofs.Names.{First, first, spells-spelled, utf8-same}
+use Rattle.codepage.proofs.Names.{first, spells-spelled, utf8-same}
 
 -- none of the bytes is c
 abbrev pub Without : ℕ → List ℕ → Type 0
@@ -86,7 +84,8 @@ module _ (c : ℕ) (low : c < 0x80) where
   in-text [] points e w = let empty : points ≡ [] = cc in rw empty tt
   in-text (b ∷ name) points e w =
       let one = first pointFor b name points e in
-      rw (one .all) (each-both c (sequenceOf (one .y)) (spelled (one .others)) (there b (one .y) (one .its) (w .0)) (in-text name (one .others) (one .theirs) (w .1)))
+      let rest = in-text name (one .others) (one .theirs) (w .1) in
+      rw (one .all) (each-both c (sequenceOf (one .y)) (spelled (one .others)) (there b (one .y) (one .its) (w .0)) rest)
 
   in-name : (name points : List ℕ) → partners pointFor name ≡ some points → Each c (spelled points) → Each c name
   unfolding partners spelled

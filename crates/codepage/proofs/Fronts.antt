@@ -1,26 +1,24 @@
 -- The sequence at the front of a text is that of a scalar value, whose size says what its first byte is.
 -- Assumes nothing.
 use mathlib.Core.Path.{_≡_, refl, sym, ap, _∙_}
-use mathlib.Core.Logic.{_⊎_, inl, inr, ⊎-elim}
-use mathlib.Core.Bool.{Bool, true, false, cond}
+use mathlib.Core.Logic.{_⊎_, inl, ⊎-elim}
+use mathlib.Core.Bool.{true, false}
 use mathlib.Core.List.{List, [], _∷_, _++_}
-use mathlib.Core.Option.{Option, none, some}
+use mathlib.Core.Option.{none}
 use Prim.Native.Nat.{ℕ, _+_, _*_, _/_, _%_, _≤_, _<_}
 use native.Mathlib.Omega.{arith}
 use borrow.Author.Tests.{eq-eqb, ne-eqb}
-use lib.Dec.{eqb}
 use lib.ListN.{length, take, drop, take-append-drop}
-use lib.Seq.{take-at, length-take-le}
+use lib.Seq.{take-at}
 use Rattle.lists.proofs.Cases.{lt-or-le, true-not-false}
 use Rattle.codepage.specs.Points.{byteFor}
 use Rattle.codepage.specs.Utf8.{TAIL, IsScalar, sequences, sequenceOf, pointIn, isIn, widthAt}
 use Rattle.codepage.specs.Names.{frontBy, frontOf}
-use Rattle.codepage.specs.declared.Front.{Front}
-use Rattle.codepage.specs.declared.Front.the-variants.{Byte, Nothing}
+use Rattle.codepage.specs.declared.Front.the-variants.{Nothing}
 use Rattle.codepage.proofs.Points.{above-none}
 use Rattle.codepage.proofs.Rows as rows
 use Rattle.codepage.proofs.Bits.{one-byte, two-bytes, three-bytes, four-bytes, two-back, three-back, sequence-back, scalar-spelled}
-use Rattle.codepage.proofs.Grammar.{rise, sequence-framing}
+use Rattle.codepage.proofs.Grammar.{rise}
 
 -- ---- a scalar value's sequence at the front
 
@@ -29,7 +27,8 @@ unfolding widthAt
 width-of p behind s =
     let one = scalar-spelled p s in
     let long = rows.within-length (one .row) (sequenceOf p) (one .within) in
-    let begun = rows.only 0 sequences (one .row) (sequenceOf p ++ behind) rise (one .of-table) (rows.within-begins (one .row) (sequenceOf p) behind (one .within)) in
+    let begins = rows.within-begins (one .row) (sequenceOf p) behind (one .within) in
+    let begun = rows.only 0 sequences (one .row) (sequenceOf p ++ behind) rise (one .of-table) begins in
     (begun .0 ∙ sym long, omega (arith, begun .1, long))
 
 pub front-of : (p : ℕ) (behind : List ℕ) → IsScalar p → frontOf (sequenceOf p ++ behind) ≡ frontBy (byteFor p) (length (sequenceOf p))

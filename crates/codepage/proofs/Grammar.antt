@@ -1,14 +1,14 @@
 -- Reading from the front reads exactly the bytes of the grammar, with the code points that they spell.
 -- Assumes nothing.
-use mathlib.Core.Path.{_≡_, refl, sym, ap, _∙_}
+use mathlib.Core.Path.{_≡_, refl, sym, _∙_}
 use mathlib.Core.Bool.{true}
-use mathlib.Core.List.{List, [], _∷_, _++_, map}
-use Prim.Native.Nat.{ℕ, _≤_, _<_}
+use mathlib.Core.List.{List, [], _∷_, _++_}
+use Prim.Native.Nat.{ℕ, _<_}
 use native.Mathlib.Omega.{arith}
-use borrow.Author.Tests.{eqb-true, eq-eqb}
+use borrow.Author.Tests.{eqb-true}
 use lib.ListN.{length, take, drop, take-append-drop}
 use lib.Seq.{take-at, drop-at}
-use Rattle.records.specs.Walks.{Framing, frontOf, recordsOf, restOf}
+use Rattle.records.specs.Walks.{Framing, frontOf, restOf}
 use Rattle.records.specs.Items.{itemsIn}
 use Rattle.records.proofs.Framings.{records-first, records-none}
 use Rattle.records.proofs.Rests.{rest-first, rest-none, by-records}

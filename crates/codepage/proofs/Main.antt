@@ -1,6 +1,6 @@
 -- The page of listener names: what is promised of the table, of `codepage::to_utf8` and of `codepage::from_utf8`.
 -- Assumes nothing.
-use mathlib.Core.Path.{_≡_, refl}
+use mathlib.Core.Path.{_≡_, refl, sym, _∙_}
 use mathlib.Core.Bool.{not}
 use mathlib.Core.List.{List, [], _∷_, map}
 use mathlib.Core.Option.{Option, none, some}
@@ -62,9 +62,12 @@ one-spelling = promises.one-spelling
 pub one-reading : (points points′ text : List ℕ) → Spells points text → Spells points′ text → points ≡ points′
 one-reading = promises.one-reading
 
--- what `to_utf8` writes is well formed
+-- what `to_utf8` writes is well formed: a name's text; and on its contract, the bytes at the front of the buffer
 pub well-formed : (name text : List ℕ) → utf8Of name ≡ some text → WellFormed text
 well-formed = promises.well-formed
+
+pub writes-well-formed : (κs : _) (a : _) (r : _) (s : _) → to-utf8.Post κs a r s → (n : ℕ) → r ≡ Length n → WellFormed (take n (now (s .1 .0)))
+writes-well-formed κs a r s p n is = promises.written-formed (now (a .0)) _ _ n (sym (p .0) ∙ is) (p .1)
 
 -- ---- the conversions
 

@@ -12,7 +12,6 @@ use lib.Dec.{eqb}
 use lib.ListN.{length, take, drop, getD, length-drop, length-append}
 use lib.Seq.{drop-cons}
 use Rattle.lists.proofs.Cases.{lt-or-le, true-not-false}
-use Rattle.records.specs.Walks.{restOf}
 use Rattle.records.proofs.Rests.{rest-first, rest-none}
 use Rattle.codepage.specs.Points.{NONE, pointOf, pointFor, byteFor}
 use Rattle.codepage.specs.Utf8.{sequenceOf, pointIn, spelled, Spells, nothing, one-more, widthAt, pointsIn, isWellFormed}

@@ -1,6 +1,6 @@
 -- What the page promises.
 -- Assumes nothing.
-use mathlib.Core.Path.{_≡_, refl, sym, ap, _∙_}
+use mathlib.Core.Path.{_≡_, refl, sym, _∙_}
 use mathlib.Core.Bool.{Bool, true, false, cond, not, _||_}
 use mathlib.Core.List.{List, [], _∷_, append-nil}
 use mathlib.Core.Option.{Option, none, some, Option·map}
@@ -13,13 +13,13 @@ use lib.ListN.{length, take, drop}
 use lib.Seq.{drop-at}
 use Rattle.lists.proofs.Laid.{laid-eq, front, length-laid}
 use Rattle.paper.specs.Rows.{fine, refusedWith, firstHeld, comesTo}
-use Rattle.paper.specs.declared.Refusal.the-variants.{NoPartner, NoRoom}
+use Rattle.paper.specs.declared.Refusal.the-variants.{NoRoom}
 use Rattle.codepage.specs.declared.Converted.{Converted}
 use Rattle.codepage.specs.declared.Converted.the-variants.{Length, Refused}
 use Rattle.codepage.specs.Points.{isFive, pointOf, pointFor}
 use Rattle.codepage.specs.Utf8.{IsScalar, sequenceOf, spelled, Spells, nothing, one-more}
 use Rattle.codepage.specs.Names.{withFirst, partners, utf8Of, isSome, resultOf, answerFor, bufferFor, numberFor}
-use Rattle.codepage.specs.Promises.{WellFormed, Same, hasFive, Bytes, convertingRows, outcome, answerIn}
+use Rattle.codepage.specs.Promises.{WellFormed, hasFive, Bytes, convertingRows, outcome, answerIn}
 use Rattle.codepage.proofs.Points.{none-at-five}
 use Rattle.codepage.proofs.Answers.{length-laid-so}
 use Rattle.codepage.proofs.Bits.{scalar-spelled}
@@ -101,6 +101,13 @@ length-written r out n e =
       behind-stays = rw (whole, so .its-length) (drop-at result (drop (length result) out) (length result) refl);
       as-long = rw (so .buffer) (length-laid out 0 result);
     }
+
+-- what a call wrote is well formed
+pub written-formed : (name out after : List ℕ) (n : ℕ) → answerFor (utf8Of name) out ≡ Length n → after ≡ bufferFor (utf8Of name) out
+    → WellFormed (take n after)
+written-formed name out after n is left =
+    let did = length-written (utf8Of name) out n is in
+    rw (left, did .at-front) (well-formed name (did .result) (did .is-result))
 
 -- ---- through both functions
 

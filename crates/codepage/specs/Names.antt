@@ -8,7 +8,7 @@ use lib.IntN.{ℤ, pos, negℤ}
 use lib.ListN.{length, take}
 use Rattle.lists.specs.Bytes.{laid}
 use Rattle.paper.specs.Refusals.{refusalNumber}
-use Rattle.paper.specs.Rows.{refuse, Row, row, Outcome, done, refusal}
+use Rattle.paper.specs.Rows.{refuse}
 use Rattle.paper.specs.declared.Refusal.the-variants.{NoPartner, NoRoom}
 use Rattle.codepage.specs.declared.Converted.{Converted}
 use Rattle.codepage.specs.declared.Converted.the-variants.{Length, Refused}

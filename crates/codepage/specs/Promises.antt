@@ -1,12 +1,11 @@
 -- What is promised of names.
 use mathlib.Core.Path.{_≡_}
 use Prim.Native.Nat.{ℕ, _<_}
-use mathlib.Core.Bool.{Bool, true, false, cond, not, _||_}
+use mathlib.Core.Bool.{Bool, false, cond, not, _||_}
 use mathlib.Core.List.{List, [], _∷_}
 use mathlib.Core.Option.{Option, some}
 use lib.Dec.{eqb}
 use lib.IntN.{ℤ, pos, negsuc}
-use lib.ListN.{length}
 use Rattle.paper.specs.Refusals.{refusalNumber}
 use Rattle.paper.specs.Rows.{Row, row, Outcome, done, refusal}
 use Rattle.paper.specs.declared.Refusal.the-variants.{NoPartner, NoRoom}

@@ -1,5 +1,4 @@
 -- UTF-8 as the Unicode Standard has it, section 3.9: which bytes are well formed, and which code points they hold.
-use mathlib.Core.Path.{_≡_}
 use mathlib.Core.Logic.{_⊎_}
 use Prim.Native.Nat.{ℕ, _+_, _*_, _/_, _%_, _≤_, _<_}
 use mathlib.Core.Bool.{Bool, true, false, cond, _&&_}

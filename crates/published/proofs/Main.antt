@@ -2,15 +2,15 @@
 -- Assumes nothing.
 use mathlib.Core.Path.{_≡_, refl}
 use mathlib.Core.List.{List, [], _∷_}
-use Prim.Native.Nat.{ℕ, _≤_}
-use lib.ListN.{length}
+use Prim.Native.Nat.{ℕ, _+_, _≤_}
+use lib.ListN.{length, take}
 use Rattle.lists.specs.Lines.{linesIn}
 use Rattle.listeners.specs.Listeners.{sameBytes}
 use Rattle.lines.specs.Hex.{hexDigit, hexByte}
 use Rattle.codepage.specs.Points.{BYTES, points, pointOf}
 use Rattle.published.specs.declared.Claim.the-variants.{Point, Undefined, NotSuch}
 use Rattle.published.specs.Claims.{digitIn, pairIn, fourIn, claimBehind, claimIn}
-use Rattle.published.specs.Comparing.{wrongFrom, FILE-MAX, pointText, ourText, theirText, differenceOf, AGREE, textOf}
+use Rattle.published.specs.Comparing.{wrongFrom, FILE-MAX, pointText, ourText, theirText, differenceOf, AGREE, textOf, comparedFor, comparedIn}
 use Rattle.published.specs.Promises.{tableIn, ourTable}
 use Rattle.published.proofs.Tables as tables
 use Rattle.published.proofs.Lengths as lengths
@@ -26,9 +26,14 @@ for-ours file = tables.for-ours (linesIn file)
 
 -- ---- other files
 
--- with one byte more than the most a file isn't as it should be, so that no more of it need be read
+-- what has more bytes than the most isn't as it should be
 pub file-short : (file : List ℕ) → wrongFrom 0 (linesIn file) ≡ 0 → length file ≤ FILE-MAX
 file-short = lengths.file-short
+
+-- so the program reads one byte more than the most, and no more: what comes of these, and what is left in the buffer, is what does of all
+pub front-enough : (file out : List ℕ)
+    → (comparedFor (take (FILE-MAX + 1) file) out ≡ comparedFor file out) × (comparedIn (take (FILE-MAX + 1) file) out ≡ comparedIn file out)
+front-enough = lengths.front-enough
 
 -- ---- by computing
 

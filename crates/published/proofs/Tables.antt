@@ -3,14 +3,14 @@
 use mathlib.Core.Path.{_≡_, refl, sym, ap, _∙_}
 use mathlib.Core.Bool.{Bool, true, false, cond, not, _&&_}
 use mathlib.Core.List.{List, [], _∷_, _++_}
-use mathlib.Core.Option.{Option, none, some}
-use Prim.Native.Nat.{ℕ, zero, suc, _+_, _≤_, _<_}
+use mathlib.Core.Option.{none, some}
+use Prim.Native.Nat.{ℕ, zero, suc, _+_}
 use native.Mathlib.Omega.{arith}
 use borrow.Author.Tests.{eq-eqb, eqb-true}
 use lib.Dec.{eqb}
 use lib.ListN.{length, getD, length-append}
 use Rattle.lists.specs.Lines.{LF}
-use Rattle.lists.proofs.Cases.{both, true-not-false}
+use Rattle.lists.proofs.Cases.{true-not-false}
 use Rattle.lines.specs.Hex.{hexByte}
 use Rattle.lines.specs.Lines.{SPACE}
 use Rattle.codepage.specs.Points.{NONE, BYTES, pointOf, pointFor}

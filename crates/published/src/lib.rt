@@ -9,7 +9,7 @@ use lines::FIELD_MAX;
 ghost use mathlib.Core.Path.{_≡_};
 ghost use mathlib.Core.Bool.{false};
 ghost use Prim.Native.Nat.{_+_, _*_, _≤_, _<_};
-ghost use lib.ListN.{length, getD};
+ghost use lib.ListN.{length};
 ghost use Rattle.lists.specs.Bytes.{laid};
 ghost use Rattle.lists.specs.Lines.{linesIn};
 ghost use Rattle.codepage.specs.Points.{BYTES};

@@ -1,35 +1,31 @@
 -- A list shown and gathered again, and lines gathered and shown again; and what is said of lines, one by one.
 -- Assumes nothing.
 use mathlib.Core.Path.{_≡_, refl, sym, ap, _∙_}
-use mathlib.Core.Bool.{Bool, true, false, cond, not, _&&_}
+use mathlib.Core.Bool.{Bool, true, false, not}
 use mathlib.Core.List.{List, [], _∷_, _++_, append-assoc}
 use mathlib.Core.Logic.{⊎-elim}
-use mathlib.Core.Option.{Option, none, some}
+use mathlib.Core.Option.{some}
 use Prim.Native.Nat.{ℕ, zero, suc, _+_, _-_, _≤_, _<_, min}
 use native.Mathlib.Omega.{arith}
 use borrow.Author.Tests.{lt-ltb, le-ltb, not-true}
-use lib.Dec.{ltb}
-use lib.ListN.{length, take, drop, length-drop, drop-of-length-le}
-use Rattle.lists.specs.Bytes.{isByte, isZero}
+use lib.ListN.{length, drop, drop-of-length-le}
+use Rattle.lists.specs.Bytes.{isByte}
 use Rattle.lists.specs.Places.{place}
 use Rattle.lists.specs.Lines.{LF, linesIn}
 use Rattle.lists.proofs.Cases.{both, lt-or-le, true-not-false}
 use Rattle.lists.proofs.Laid.{to-end}
-use Rattle.lists.proofs.Places.{place-le}
 use Rattle.lists.proofs.Cuts.{lines-front, lines-on}
 use Rattle.listeners.specs.Listeners as listeners
 use Rattle.listeners.specs.Listeners.{names, isEmpty, noneEmpty, allNames, goodList}
 use Rattle.listeners.proofs.Names.{Clean, names-front}
 use Rattle.listeners.proofs.Lists.{all-none, all-front}
-use Rattle.listeners.proofs.Written.{Written, EachClean, good-written}
+use Rattle.listeners.proofs.Written.{EachClean, good-written}
 use Rattle.codepage.specs.Names.{utf8Of, nameOf, isSome, resultOf}
 use Rattle.codepage.proofs.Answers.{is-result}
 use Rattle.codepage.proofs.Names.{name-back, text-back, utf8-long}
 use Rattle.codepage.proofs.Ascii.{text-without, name-without}
-use Rattle.viewing.specs.declared.Verdict.{Verdict}
-use Rattle.viewing.specs.declared.Verdict.the-variants.{Kept}
 use Rattle.viewing.specs.Lists.{nameLine, nameLines}
-use Rattle.viewing.specs.Texts.{verdictOn, isKept, entryOf, entriesOf, leftOutLine, leftOut, firstLine, lineAt, saidFrom}
+use Rattle.viewing.specs.Texts.{verdictOn, isKept, entryOf, entriesOf, leftOut, firstLine, lineAt, saidFrom}
 use Rattle.viewing.specs.Promises.{Tellable, AllKept, ended}
 use Rattle.viewing.proofs.Verdicts.{Keeps, kept-so, so-kept}
 
@@ -64,7 +60,8 @@ shown-again (name ∷ ns) filled clean can =
     let none-there = text-without LF (omega arith) name text is (can .0 .1) in
     let line = append-assoc text (LF ∷ []) (nameLines ns) in
     let entry = name-again name (not-true (isEmpty name) (t .0)) (clean .0) (can .0 .0) in
-    rw (is, line, lines-front text (nameLines ns) none-there, entry, shown-again ns (t .1) (clean .1) (can .1)) (append-assoc name (0 ∷ []) (listeners.ended ns))
+    let rest = shown-again ns (t .1) (clean .1) (can .1) in
+    rw (is, line, lines-front text (nameLines ns) none-there, entry, rest) (append-assoc name (0 ∷ []) (listeners.ended ns))
 
 -- what is shown of a good list is gathered as that list
 pub list-back : (list : List ℕ) → goodList list ≡ true → Tellable (names list) → entriesOf (linesIn (nameLines (names list))) ≡ list

@@ -17,7 +17,7 @@ use Rattle.codepage.specs.Utf8.{sequences, sequenceOf, spelled, pointIn, begins
 use Rattle.codepage.specs.Names.{partners, utf8Of, nameOf}
 use Rattle.viewing.specs.declared.Verdict.the-variants.{Kept}
 use Rattle.viewing.specs.Lists.{nameLine, nameLines}
-use Rattle.viewing.specs.Texts.{verdictOn, entryOf, entriesOf, reasonFor, leftOutLine, leftOut, saidFrom}
+use Rattle.viewing.specs.Texts.{verdictOn, entryOf, entriesOf, leftOut, saidFrom}
 use Rattle.viewing.specs.Promises.{Tellable, AllKept, ended}
 use Rattle.viewing.proofs.Verdicts as verdicts
 use Rattle.viewing.proofs.Back as back

@@ -3,10 +3,10 @@
 use mathlib.Core.Path.{_≡_, refl, sym, ap, _∙_}
 use mathlib.Core.Bool.{Bool, true, false, cond, not}
 use mathlib.Core.List.{List}
-use mathlib.Core.Option.{Option, none, some}
-use Prim.Native.Nat.{ℕ, _≤_, _<_}
+use mathlib.Core.Option.{none}
+use Prim.Native.Nat.{ℕ}
 use native.Mathlib.Omega.{arith}
-use borrow.Author.Tests.{eqb-false, ltb-false, not-false, ne-eqb, le-ltb}
+use borrow.Author.Tests.{eqb-false, ltb-false, ne-eqb, le-ltb}
 use lib.Dec.{eqb, ltb}
 use lib.ListN.{length}
 use Rattle.lists.specs.Bytes.{isZero}
@@ -14,7 +14,6 @@ use Rattle.lists.specs.Places.{place}
 use Rattle.lists.proofs.Cases.{true-not-false}
 use Rattle.lists.proofs.Places.{place-le}
 use Rattle.codepage.specs.Names.{nameOf, isSome}
-use Rattle.viewing.specs.declared.Verdict.{Verdict}
 use Rattle.viewing.specs.declared.Verdict.the-variants.{Kept, Empty, HasZero, Unnamed}
 use Rattle.viewing.specs.Texts.{verdictOn, isKept}
 

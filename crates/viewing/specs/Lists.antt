@@ -1,6 +1,6 @@
 -- A listener list, as the viewer shows it: "prints each name of a listener list [..] as a line of UTF-8".
 use Prim.Native.Nat.{ℕ, _*_, _≤_}
-use mathlib.Core.Bool.{cond, not}
+use mathlib.Core.Bool.{not}
 use mathlib.Core.List.{List, [], _∷_, _++_}
 use mathlib.Core.Option.{Option, none, some}
 use lib.Dec.{ltb}

@@ -1,10 +1,8 @@
 -- `codepage::entry` meets its contract: the table has an entry for each byte.
-use mathlib.Core.Path.{_≡_, ap, _∙_}
-use denote.Ref.{now}
+use mathlib.Core.Path.{ap, _∙_}
 use borrow.Author.Needs.{needs}
 use native.Mathlib.Omega.{arith}
 use lib.ListN.{length}
-use Rattle.codepage.specs.Points.{points}
 use Rattle.codepage.proofs.Points.{size, entry-read}
 use Rattle.codepage.proofs.entry.Statement.{statement}
 use Rattle.codepage.proofs.entry.Tie as tie

@@ -1,12 +1,11 @@
 -- `codepage::front_at` meets its contract: the first byte says how many bytes a sequence has, or that none with a byte stands there.
-use mathlib.Core.Path.{_≡_, sym, _∙_}
+use mathlib.Core.Path.{sym}
 use mathlib.Core.Logic.{inl, inr}
-use mathlib.Core.List.{[], _∷_}
 use Prim.Native.Nat.{_+_}
 use denote.Ref.{now}
 use borrow.Author.Needs.{needs}
 use native.Mathlib.Omega.{arith}
-use lib.ListN.{length, drop, getD}
+use lib.ListN.{drop, getD}
 use Rattle.codepage.proofs.Bits.{one-byte}
 use Rattle.codepage.proofs.Bytes.{one-at}
 use Rattle.codepage.proofs.Fronts.{front-of, nothing-first}

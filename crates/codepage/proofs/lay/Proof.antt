@@ -1,6 +1,6 @@
 -- `codepage::lay` meets its contract: byte by byte it is the sequence of the code point's size, for which there is room.
 use mathlib.Core.Path.{_≡_, refl, sym, ap}
-use Prim.Native.Nat.{suc, _+_, _<_}
+use Prim.Native.Nat.{suc, _+_}
 use native.Mathlib.Numerals.{add-one}
 use lib.ListN.{length, length-set}
 use borrow.Author.Needs.{needs}

@@ -1,10 +1,6 @@
 -- `codepage::of_point` meets its contract: below 80 and from A0 to FF a code point is its own byte, and controls and 65,535 have none.
-use mathlib.Core.Path.{sym, ap}
-use mathlib.Core.Option.{Option}
-use Prim.Native.Nat.{ℕ}
 use borrow.Author.Needs.{needs}
 use native.Mathlib.Omega.{arith}
-use Rattle.codepage.specs.Names.{frontBy}
 use Rattle.codepage.proofs.Points.{low-same, high-same, own-byte, controls-none, above-none}
 use Rattle.codepage.proofs.of_point.Statement.{statement}
 use Rattle.codepage.proofs.of_point.Tie as tie

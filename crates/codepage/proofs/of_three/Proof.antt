@@ -1,13 +1,12 @@
 -- `codepage::of_three` meets its contract: two tails must stand behind the first byte, and the three hold the code point unless it is too
 -- small for them.
-use mathlib.Core.Path.{_≡_, sym, _∙_}
-use mathlib.Core.List.{[], _∷_}
-use Prim.Native.Nat.{_+_, _≤_, _<_}
+use mathlib.Core.Path.{sym, _∙_}
+use Prim.Native.Nat.{_+_}
 use denote.Ref.{now}
 use borrow.Author.Needs.{needs}
 use borrow.Author.Tests.{not-true, not-false}
 use native.Mathlib.Omega.{arith}
-use lib.ListN.{length, drop, getD, length-drop}
+use lib.ListN.{drop, getD, length-drop}
 use Rattle.codepage.proofs.Bytes.{one-at, three-at}
 use Rattle.codepage.proofs.Fronts.{three-short, second-untailed, third-untailed, three-over, three-front}
 use Rattle.codepage.proofs.of_three.Statement.{statement}
@@ -58,7 +57,8 @@ returns-5 c =
     let h = sym (second .before .is-tail .ensures) ∙ not-false _ (second .if2 .left) in
     let g = sym (last .before .is-tail2 .ensures) ∙ not-false _ (last .if3 .left) in
     let over = rw (c .before .before .three .ensures) at (c .before .if4 .left) in
-    let front = three-front (getD text at 0) (start .pre .1 .0) (start .pre .1 .1) (getD text (at + 1) 0) (getD text (at + 2) 0) (drop (at + 3) text) h g over in
+    let lead = start .pre .1 in
+    let front = three-front (getD text at 0) (lead .0) (lead .1) (getD text (at + 1) 0) (getD text (at + 2) 0) (drop (at + 3) text) h g over in
     rw (three-at text at (omega arith), front, ← (c .before .before .three .ensures)) (c .of-point .ensures)
 
 pub of-three-spec : {M : Type 1} → statement M

@@ -1,13 +1,11 @@
 -- `codepage::of_two` meets its contract: a byte must stand behind the first and be a tail; then the two hold the code point.
-use mathlib.Core.Path.{_≡_, sym, _∙_}
-use mathlib.Core.Bool.{true}
-use mathlib.Core.List.{_∷_}
-use Prim.Native.Nat.{_+_, _<_}
+use mathlib.Core.Path.{sym, _∙_}
+use Prim.Native.Nat.{_+_}
 use denote.Ref.{now}
 use borrow.Author.Needs.{needs}
 use borrow.Author.Tests.{not-true, not-false}
 use native.Mathlib.Omega.{arith}
-use lib.ListN.{length, drop, getD, drop-of-length-le}
+use lib.ListN.{drop, getD, drop-of-length-le}
 use Rattle.codepage.proofs.Bytes.{one-at, two-at}
 use Rattle.codepage.proofs.Fronts.{two-short, two-untailed, two-front}
 use Rattle.codepage.proofs.of_two.Statement.{statement}

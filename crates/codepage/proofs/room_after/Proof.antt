@@ -1,5 +1,5 @@
 -- `codepage::room_after` meets its contract: what is left of the room is what the sequences so far leave of it.
-use mathlib.Core.Path.{_≡_, refl, sym}
+use mathlib.Core.Path.{_≡_, refl}
 use mathlib.Core.List.{_++_}
 use Prim.Native.Nat.{_+_, _-_, _<_}
 use denote.Ref.{now}

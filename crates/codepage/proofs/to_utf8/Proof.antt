@@ -1,5 +1,5 @@
 -- `codepage::to_utf8` meets its contract: the guards are its two refusals in their order, and then the result is written.
-use mathlib.Core.Path.{_≡_, sym, ap, _∙_}
+use mathlib.Core.Path.{_≡_, sym, _∙_}
 use mathlib.Core.Bool.{true}
 use Prim.Native.Nat.{_-_, _≤_}
 use denote.Ref.{now}

@@ -2,7 +2,6 @@
 use mathlib.Core.Path.{sym, ap}
 use lib.ListN.{length}
 use borrow.Author.Needs.{needs}
-use native.Mathlib.Omega.{arith}
 use Rattle.codepage.proofs.Bits.{one-byte, two-bytes, three-bytes}
 use Rattle.codepage.proofs.width.Statement.{statement}
 use Rattle.codepage.proofs.width.Tie as tie

@@ -1,5 +1,5 @@
 -- `codepage::write_name` meets its contract: the bytes so far stand at the front, and what is left of the text leads to the rest.
-use mathlib.Core.Path.{_≡_, refl, sym, ap, _∙_}
+use mathlib.Core.Path.{refl, sym, ap, _∙_}
 use mathlib.Core.List.{[], _∷_, _++_}
 use Prim.Native.Nat.{_+_, _-_, _≤_, _<_}
 use denote.Ref.{now}

@@ -1,5 +1,4 @@
 -- `published::agree` meets its contract: each arm is a case of the definition.
-use mathlib.Core.Path.{_≡_, refl}
 use borrow.Author.Needs.{needs}
 use borrow.Author.Tests.{ne-eqb}
 use Rattle.codepage.specs.Points.{NONE}

@@ -1,11 +1,10 @@
 -- `published::claim_in` meets its contract: the guards are those of the definition.
-use mathlib.Core.Path.{_≡_, refl, sym, ap, _∙_}
-use Prim.Native.Nat.{_-_}
+use mathlib.Core.Path.{ap, _∙_}
 use denote.Ref.{now}
 use borrow.Author.Needs.{needs}
 use borrow.Author.Tests.{lt-ltb, le-ltb, eq-eqb, ne-eqb}
 use native.Mathlib.Omega.{arith}
-use lib.ListN.{length, drop, getD}
+use lib.ListN.{length, getD}
 use Rattle.lists.proofs.Laid.{to-end}
 use Rattle.lines.specs.Lines.{SPACE}
 use Rattle.published.specs.Claims.{pairIn, claimBehind, claimIn}

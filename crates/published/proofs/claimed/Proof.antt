@@ -1,13 +1,11 @@
 -- `published::claimed` meets its contract: the word, or four digits, of which each pair must be one.
-use mathlib.Core.Path.{_≡_, refl, sym, _∙_}
-use mathlib.Core.Bool.{true}
+use mathlib.Core.Path.{_≡_, sym, _∙_}
 use Prim.Native.Nat.{_+_, _*_}
 use denote.Ref.{now}
 use borrow.Author.Needs.{needs}
 use borrow.Author.Tests.{eq-eqb, ne-eqb}
 use native.Mathlib.Omega.{arith}
 use lib.ListN.{length, getD}
-use Rattle.listeners.specs.Listeners.{sameBytes}
 use Rattle.listeners.proofs.Matches.{compared}
 use Rattle.published.specs.Claims.{UNDEFINED, pairIn, fourIn, claimBehind}
 use Rattle.published.proofs.Numbers.{is-number, no-number, pair-small}
@@ -71,6 +69,7 @@ claimed-spec =
     (tie.spec
     (λ c. search needs) (λ c κs. search needs) returns returns-2 (λ c. search needs) (λ c. search needs) (λ c κs. search needs) returns-3
     (λ c. search needs) (λ c. search needs) (λ c κs. search needs) returns-4
-    (λ c. omega (arith, c .before .before .before .before .before .pair .ensures .1, c .before .before .before .before .if3 .left))
-    (λ c. omega (arith, c .before .before .before .before .before .pair .ensures .1, c .before .before .before .before .if3 .left, c .before .pair2 .ensures .1, c .if4 .left))
+    (λ c. let first = c .before .before .before .before in omega (arith, first .before .pair .ensures .1, first .if3 .left))
+    (λ c. let first = c .before .before .before .before in
+    omega (arith, first .before .pair .ensures .1, first .if3 .left, c .before .pair2 .ensures .1, c .if4 .left))
     returns-5)

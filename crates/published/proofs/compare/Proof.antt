@@ -1,5 +1,5 @@
 -- `published::compare` meets its contract: the guards are the cases of the definition.
-use mathlib.Core.Path.{_≡_, refl, sym, ap, _∙_}
+use mathlib.Core.Path.{_≡_, refl, sym, _∙_}
 use Prim.Native.Nat.{_≤_}
 use denote.Ref.{now}
 use borrow.Author.Needs.{needs}
@@ -7,7 +7,7 @@ use borrow.Author.Tests.{lt-ltb, le-ltb, eq-eqb, ne-eqb}
 use lib.ListN.{length}
 use native.Mathlib.Omega.{arith}
 use Rattle.lists.specs.Lines.{linesIn}
-use Rattle.published.specs.Comparing.{wrongFrom, COMPARED-MAX, differencesFrom, textOf, comparedFor, comparedIn}
+use Rattle.published.specs.Comparing.{wrongFrom, COMPARED-MAX, differencesFrom, comparedFor, comparedIn}
 use Rattle.published.proofs.Files.{all-agree, some-differ, none-laid}
 use Rattle.published.proofs.compare.Statement.{statement}
 use Rattle.published.proofs.compare.Tie as tie

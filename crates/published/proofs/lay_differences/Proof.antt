@@ -1,5 +1,4 @@
 -- `published::lay_differences` meets its contract: each turn lays what differs for the next byte behind what is laid so far.
-use mathlib.Core.Path.{_≡_, refl, sym, ap, _∙_}
 use mathlib.Core.List.{List}
 use Prim.Native.Nat.{ℕ, _+_, _-_, _*_, _≤_, _<_}
 use denote.Ref.{now}
@@ -87,7 +86,7 @@ lay-differences-spec =
     tie.close
     (tie.spec
     Inv-loop μ-loop loop-holds (λ c. search needs) (λ c. search needs) (λ c. search needs) (λ c κs. search needs)
-    (λ c. omega (arith, turn c .ends)) (λ c. omega (arith, turn c .byte)) (λ c. omega (arith, turn c .room)) (λ c. omega (arith, turn c .room)) (λ c. search needs)
-    (λ c. search needs) (λ c. search needs) (λ c. omega (arith, turn (c .before) .ends)) (λ c κs. search needs) (λ c κs. search needs) add-used
+    (λ c. omega (arith, turn c .ends)) (λ c. omega (arith, turn c .byte)) (λ c. omega (arith, turn c .room)) (λ c. omega (arith, turn c .room))
+    (λ c. search needs) (λ c. search needs) (λ c. search needs) (λ c. omega (arith, turn (c .before) .ends)) (λ c κs. search needs) (λ c κs. search needs) add-used
     (λ c. omega (arith, turn (c .before .before .before .before .before .before) .ends))
     (λ c. omega (arith, turn (c .before .before .before .before .before .before) .byte)) (λ c. omega arith) loop-again same-length returns)

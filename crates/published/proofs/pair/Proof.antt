@@ -1,6 +1,5 @@
 -- `published::pair` meets its contract: both digits must be ones.
-use mathlib.Core.Path.{_≡_, refl}
-use Prim.Native.Nat.{_+_, _*_}
+use mathlib.Core.Path.{refl}
 use borrow.Author.Needs.{needs}
 use native.Mathlib.Omega.{arith}
 use Rattle.published.specs.Claims.{digitIn, pairIn}

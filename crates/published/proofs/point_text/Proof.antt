@@ -1,6 +1,5 @@
 -- `published::point_text` meets its contract: the two bytes' digits, one behind the other.
-use mathlib.Core.Path.{_≡_, refl, ap, _∙_}
-use mathlib.Core.List.{_++_}
+use mathlib.Core.Path.{_∙_}
 use Prim.Native.Nat.{_/_, _%_}
 use denote.Ref.{now}
 use Rattle.lists.proofs.Laid.{laid-behind}

@@ -4,7 +4,7 @@ use Prim.Native.Nat.{_+_, _-_, _≤_, _<_}
 use denote.Ref.{now}
 use lib.ListN.{length}
 use lib.Seq.{length-take-le}
-use Rattle.viewing.specs.Texts.{SAY-MAX, lineAt}
+use Rattle.viewing.specs.Texts.{SAY-MAX}
 use Rattle.viewing.proofs.Back.{line-on}
 use borrow.Author.Needs.{needs}
 use native.Mathlib.Omega.{arith}

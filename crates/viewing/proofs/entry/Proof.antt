@@ -1,8 +1,8 @@
 -- `viewing::entry` meets its contract: a line that is kept has a name, which fits with its zero byte.
 use mathlib.Core.Path.{_≡_, refl, sym, ap, _∙_}
 use mathlib.Core.Bool.{true}
-use mathlib.Core.List.{[], _∷_, _++_}
-use mathlib.Core.Option.{none, some}
+use mathlib.Core.List.{[], _∷_}
+use mathlib.Core.Option.{some}
 use Prim.Native.Nat.{_+_, _-_, _≤_}
 use borrow.Author.Tests.{not-true, not-false}
 use borrow.Rule.Slice.PartMut.{putMid}
@@ -49,7 +49,8 @@ wrote : (c : tie.After-known-told) → let a = c .before .before .before .before
     (r ≡ some (resultOf r))
     × ((n ≡ length (resultOf r))
     × ((a .at + n ≤ length (now (a .out)))
-    × (putMid (a .at) (length (now (a .out)) - a .at) (now (a .out)) (c .before .before .before .before .before .from-utf8 .last .1 .0) ≡ laid (now (a .out)) (a .at) (resultOf r))))
+    × (putMid (a .at) (length (now (a .out)) - a .at) (now (a .out)) (c .before .before .before .before .before .from-utf8 .last .1 .0)
+    ≡ laid (now (a .out)) (a .at) (resultOf r))))
 wrote c =
     let did = c .before .before .before .before .before in
     let start = did .before .before .before .before .before .before .before in

@@ -1,11 +1,10 @@
 -- `viewing::lay_lines` meets its contract: each turn lays the line of the next name behind the lines before.
-use mathlib.Core.Path.{_≡_, refl, ap, _∙_}
+use mathlib.Core.Path.{_≡_, ap, _∙_}
 use mathlib.Core.Bool.{true}
 use mathlib.Core.List.{List}
 use Prim.Native.Nat.{ℕ, _+_, _-_, _*_, _≤_, _<_}
 use denote.Ref.{now}
 use lib.ListN.{length, take, drop}
-use Rattle.paper.specs.Sizes.{LIST-MAX}
 use Rattle.lists.proofs.Laid.{from-to}
 use Rattle.lists.proofs.Cuts.{length-on}
 use Rattle.listeners.specs.Listeners.{names, allNames}

@@ -1,5 +1,5 @@
 -- `viewing::lay_list` meets its contract: each turn lays the entry of the next line behind those before.
-use mathlib.Core.Path.{_≡_, refl, ap, _∙_}
+use mathlib.Core.Path.{_≡_, ap, _∙_}
 use mathlib.Core.List.{List}
 use Prim.Native.Nat.{ℕ, _+_, _-_, _≤_, _<_}
 use denote.Ref.{now}

@@ -1,6 +1,6 @@
 -- `viewing::line_at` meets its contract: the line goes up to the next LF or to the end, and the next begins one byte behind it.
-use mathlib.Core.Path.{_≡_, refl, sym, ap, _∙_}
-use Prim.Native.Nat.{_+_, _-_, _≤_, min}
+use mathlib.Core.Path.{_≡_, ap, _∙_}
+use Prim.Native.Nat.{_+_, _-_, _≤_}
 use denote.Ref.{now}
 use lib.ListN.{length, take, drop, length-drop}
 use Rattle.lists.specs.Bytes.{isByte}
@@ -19,7 +19,8 @@ use Rattle.viewing.proofs.line_at.Tie as tie
 found : (c : tie.After-first-of) → let start = c .before .before .before .before in
     let text = now (start .args .text) in
     let from = c .before .before .lesser .result in
-    (c .first-of .result ≡ place (isByte LF) (drop (start .args .at) text)) × ((drop from text ≡ drop (start .args .at) text) × (from + c .first-of .result ≤ length text))
+    (c .first-of .result ≡ place (isByte LF) (drop (start .args .at) text))
+    × ((drop from text ≡ drop (start .args .at) text) × (from + c .first-of .result ≤ length text))
 found c =
     let start = c .before .before .before .before in
     let text = now (start .args .text) in

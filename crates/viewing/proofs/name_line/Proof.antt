@@ -1,7 +1,7 @@
 -- `viewing::name_line` meets its contract: the name in UTF-8 and LF behind it, or the refusal where it has none; both fit.
-use mathlib.Core.Path.{_≡_, refl, sym, ap, _∙_}
-use mathlib.Core.List.{[], _∷_, _++_}
-use mathlib.Core.Option.{none, some}
+use mathlib.Core.Path.{_≡_}
+use mathlib.Core.List.{[], _∷_}
+use mathlib.Core.Option.{some}
 use Prim.Native.Nat.{_+_, _-_, _*_, _≤_}
 use borrow.Rule.Slice.PartMut.{putMid}
 use denote.Ref.{now}
@@ -10,7 +10,6 @@ use Rattle.lists.specs.Bytes.{laid}
 use Rattle.lists.specs.Lines.{LF}
 use Rattle.lists.proofs.Laid.{length-laid}
 use Rattle.codepage.specs.Names.{utf8Of, resultOf}
-use Rattle.codepage.proofs.Names.{utf8-long}
 use Rattle.viewing.specs.Lists.{nameLine}
 use Rattle.viewing.proofs.Parts.{byte-behind, refused-so, written-so}
 use Rattle.viewing.proofs.Lengths.{result-long, refused-long}
@@ -45,7 +44,8 @@ wrote : (c : tie.After-known-told) → let a = c .before .before .before .before
     (r ≡ some (resultOf r))
     × ((n ≡ length (resultOf r))
     × ((a .at + n ≤ length (now (a .out)))
-    × (putMid (a .at) (length (now (a .out)) - a .at) (now (a .out)) (c .before .before .before .before .before .to-utf8 .last .1 .0) ≡ laid (now (a .out)) (a .at) (resultOf r))))
+    × (putMid (a .at) (length (now (a .out)) - a .at) (now (a .out)) (c .before .before .before .before .before .to-utf8 .last .1 .0)
+    ≡ laid (now (a .out)) (a .at) (resultOf r))))
 wrote c =
     let did = c .before .before .before .before .before in
     let start = did .before .before .before .before in

@@ -1,5 +1,5 @@
 -- `viewing::reason` meets its contract: each arm is a case of the definition.
-use mathlib.Core.Path.{refl, _∙_, ap}
+use mathlib.Core.Path.{refl}
 use Rattle.lists.specs.Bytes.{laid}
 use Rattle.viewing.specs.Texts.{reasonFor}
 use borrow.Author.Needs.{needs}
