@@ -1,6 +1,8 @@
 // The listener list: the names that the host listens for, each ended by a zero byte.
 //
 // `good` says whether bytes are such a list, and `listed` whether a name is in it. Both take any bytes.
+#![tactic(auto)]
+
 ghost use Rattle.std.specs.Prelude.{◌≡◌};
 ghost use Rattle.listeners.specs.Listeners.{same_bytes, good_list, is_listed};
 

@@ -2,6 +2,8 @@
 //
 // specs/ has the definitions that every other crate cites: the first place that passes a test, bytes laid over a list,
 // zeros. proofs/ has their laws. The functions copy, clear and look for a byte. Each takes slices of any length.
+#![tactic(auto)]
+
 ghost use Rattle.std.specs.Prelude.{◌≡◌, min, length, drop};
 ghost use Rattle.lists.specs.Bytes.{laid, zeros, is_byte, is_zero};
 ghost use Rattle.lists.specs.Places.{place};

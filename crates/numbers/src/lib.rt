@@ -1,6 +1,8 @@
 // Numbers in bytes: little-endian, of one, two or four bytes, and the signed status of four.
 //
 // Every function takes any bytes and any lengths, and none refuses.
+#![tactic(auto)]
+
 ghost use Rattle.std.specs.Prelude.{◌≡◌, ◌<◌, take};
 ghost use Rattle.lists.specs.Bytes.{laid, zeros};
 ghost use Rattle.numbers.specs.Numbers.{little, bytes_of, value_of, value_at, width_of, code_for, narrowest, measured_of};

@@ -2,6 +2,8 @@
 //
 // Code takes the names from here, and definitions take the names of specs/Sizes, specs/Commands and
 // specs/Refusals. Every use in code is proved to agree with the definition that it meets, so the two can't drift apart.
+#![tactic(auto)]
+
 ghost use Rattle.std.specs.Prelude.{◌≡◌};
 ghost use Rattle.paper.specs.Refusals.{refusal_number};
 

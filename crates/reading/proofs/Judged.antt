@@ -64,8 +64,8 @@ has_sp_law fromServer cmd h k = rw (ne_eqb cmd CREATE h, ne_eqb cmd DATA_FIRST k
 
 -- ---- what strict reading answers
 
--- the seven kinds, by their places among the answers
-pub kinds : (p : Pdu) → OneOf (0 ∷ 1 ∷ 2 ∷ 3 ∷ 4 ∷ 5 ∷ 6 ∷ []) (tag_of the_type p) → verdict_on p ≡ fine
+-- the seven kinds: an answer that is no refusal
+pub kinds : (p : Pdu) → ((why : Refusal) → p ≡ Refused why → ⊥) → verdict_on p ≡ fine
 kinds (CreateRequest number class name) k = refl
 kinds (CreateResponse number status) k = refl
 kinds (DataFirst number len block) k = refl
@@ -73,7 +73,7 @@ kinds (Data number block) k = refl
 kinds (Close number) k = refl
 kinds (CapsRequest version charges) k = refl
 kinds (CapsResponse version) k = refl
-kinds (Refused why) k = absurd (miss (0 ∷ 1 ∷ 2 ∷ 3 ∷ 4 ∷ 5 ∷ 6 ∷ []) 7 tt k)
+kinds (Refused why) k = absurd (k why refl)
 
 pub stays : (found : Found) {why : Refusal} → found.answer ≡ Refused why → judged found ≡ Refused why
 unfolding strictly

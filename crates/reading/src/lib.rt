@@ -5,6 +5,8 @@
 // ignored bits that are set. Both stand on the same stages, `find` and those before it, in that order, each with a
 // definition of its own name in specs/Reading; what strict reading adds to them is in specs/Strict. `carries` tells whose a
 // block of data is that reading refuses.
+#![tactic(auto)]
+
 ghost use Rattle.std.specs.Prelude.{◌≡◌, false, ◌||◌, ◌+◌, ◌≤◌, length};
 ghost use Rattle.paper.specs.Rows.{verdict_number};
 ghost use Rattle.numbers.specs.Numbers.{wide_at, measured_at};

@@ -5,6 +5,8 @@
 // PDU is not judged here.
 //
 // specs/Walks says what any program that walks over records writes, at a turn and over a whole run.
+#![tactic(auto)]
+
 ghost use Rattle.std.specs.Prelude.{◌≡◌, ◌≤◌};
 ghost use Rattle.records.specs.Records.{whole_of};
 ghost use Rattle.records.specs.Desk.{NEEDS_MAX, desk_needs, desk_whole, message_needs, link_needs, link_whole};

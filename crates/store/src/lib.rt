@@ -2,6 +2,8 @@
 //
 // Only a channel's own part is lent on to be written. A store of another size, or a place from sixteen on, has no part:
 // there nothing is written.
+#![tactic(auto)]
+
 ghost use Rattle.std.specs.Prelude.{◌≡◌, length};
 ghost use Rattle.paper.specs.Sizes.{PART};
 ghost use Rattle.lists.specs.Bytes.{laid};
