@@ -16,21 +16,21 @@ use Rattle.blocks.specs.Block.{number_in, used_in}
 use Rattle.blocks.proofs.Judged.{good_says, uses_le}
 use Rattle.paper.specs.declared.Refusal.TheVariants.{LogFull}
 use Rattle.paper.specs.Refusals.{refusal_number}
-use Rattle.log.specs.declared.Log.{Log}
-use Rattle.log.specs.declared.End.{End}
-use Rattle.log.specs.declared.Reader.{Reader}
-use Rattle.log.specs.Records.{Entry, record_of}
-use Rattle.log.specs.Reading.{BLOCKS_MAX, Course, taken}
-use Rattle.log.specs.TakenBack.{end_after}
-use Rattle.log.specs.Turns.{is_last_of, reader_with, room_after, StandsAt}
-use Rattle.log.specs.Promises.{Holds, flashed, log_of, blocks_of, log_then}
-use Rattle.log.proofs.Framing.{entry_short}
-use Rattle.log.proofs.Appends.{touches_few}
-use Rattle.log.proofs.Runs.{records_more}
-use Rattle.log.proofs.Readers.{reader_says}
-use Rattle.log.proofs.Resumed.{gives_good}
-use Rattle.log.proofs.Turning as turning
-use Rattle.log.proofs.Main as library
+use Rattle.linklog.specs.declared.Log.{Log}
+use Rattle.linklog.specs.declared.End.{End}
+use Rattle.linklog.specs.declared.Reader.{Reader}
+use Rattle.linklog.specs.Records.{Entry, record_of}
+use Rattle.linklog.specs.Reading.{BLOCKS_MAX, Course, taken}
+use Rattle.linklog.specs.TakenBack.{end_after}
+use Rattle.linklog.specs.Turns.{is_last_of, reader_with, room_after, StandsAt}
+use Rattle.linklog.specs.Promises.{Holds, flashed, log_of, blocks_of, log_then}
+use Rattle.linklog.proofs.Framing.{entry_short}
+use Rattle.linklog.proofs.Appends.{touches_few}
+use Rattle.linklog.proofs.Runs.{records_more}
+use Rattle.linklog.proofs.Readers.{reader_says}
+use Rattle.linklog.proofs.Resumed.{gives_good}
+use Rattle.linklog.proofs.Turning as turning
+use Rattle.linklog.proofs.Main as library
 use Rattle.log_face.specs.Words.{HELDS, LOGS, READS, ENDS, USEDS, log_word, log_in, log_number, append_number, append_room, refused_as}
 use Rattle.log_face.specs.Words.{end_in, read_word, read_in, read_number, turn_number, turn_room}
 use Rattle.log_face.proofs.Words.{a_log, a_reader}

@@ -4,10 +4,10 @@ use mathlib.Core.Bool.{Bool, true, false}
 use Prim.Native.Nat.{◌+◌, ◌*◌, ◌/◌, ◌%◌, ◌≤◌, ◌<◌}
 use native.Mathlib.Omega.{arith}
 use lib.Dec.{eqb}
-use Rattle.log.specs.declared.Log.{Log}
-use Rattle.log.specs.declared.End.{End}
-use Rattle.log.specs.declared.Reader.{Reader}
-use Rattle.log.specs.Reading.{BLOCKS_MAX}
+use Rattle.linklog.specs.declared.Log.{Log}
+use Rattle.linklog.specs.declared.End.{End}
+use Rattle.linklog.specs.declared.Reader.{Reader}
+use Rattle.linklog.specs.Reading.{BLOCKS_MAX}
 use Rattle.log_face.specs.Words.{HELDS, LOGS, log_word, log_in, WHOLES, BEHINDS, ENDS, USEDS, READS, bit, end_word, end_in, read_word, read_in}
 
 -- ---- a log

@@ -5,9 +5,9 @@ use Prim.Native.Nat.{ℕ, ◌≤◌, ◌<◌}
 use borrow.Author.Tests.{lt-ltb, le-ltb}
 use Rattle.paper.specs.Refusals.{refusal_number}
 use Rattle.paper.specs.declared.Refusal.TheVariants.{BadCall}
-use Rattle.log.specs.Appending.{answer_for, room_then}
-use Rattle.log.specs.Turns.{turned_to, room_after}
-use Rattle.log.specs.Taking.{took_back, room_back}
+use Rattle.linklog.specs.Appending.{answer_for, room_then}
+use Rattle.linklog.specs.Turns.{turned_to, room_after}
+use Rattle.linklog.specs.Taking.{took_back, room_back}
 use Rattle.log_face.specs.Words.{LOGS, READS, log_in, log_number, append_number, append_room, read_in}
 use Rattle.log_face.specs.Words.{read_number, turn_number, turn_room, back_number, back_room, refused_as}
 

@@ -2,17 +2,17 @@
 use Rattle.std.specs.Prelude.{ℕ, ◌+◌, ◌*◌, ◌/◌, ◌%◌, Bool, cond, List, ltb, eqb, ℤ, pos, neg_ℤ}
 use Rattle.paper.specs.Refusals.{refusal_number}
 use Rattle.paper.specs.declared.Refusal.TheVariants.{BadCall}
-use Rattle.log.specs.declared.Log.{Log}
-use Rattle.log.specs.declared.End.{End}
-use Rattle.log.specs.declared.Reader.{Reader}
-use Rattle.log.specs.declared.Appended.{Appended}
-use Rattle.log.specs.declared.Appended.TheVariants.{Put, Refused}
-use Rattle.log.specs.declared.Turned.{Turned}
-use Rattle.log.specs.declared.Turned.TheVariants.{Stands}
-use Rattle.log.specs.declared.Turned.TheVariants as turned
-use Rattle.log.specs.Appending.{answer_for, room_then}
-use Rattle.log.specs.Turns.{turned_to, room_after}
-use Rattle.log.specs.Taking.{took_back, room_back}
+use Rattle.linklog.specs.declared.Log.{Log}
+use Rattle.linklog.specs.declared.End.{End}
+use Rattle.linklog.specs.declared.Reader.{Reader}
+use Rattle.linklog.specs.declared.Appended.{Appended}
+use Rattle.linklog.specs.declared.Appended.TheVariants.{Put, Refused}
+use Rattle.linklog.specs.declared.Turned.{Turned}
+use Rattle.linklog.specs.declared.Turned.TheVariants.{Stands}
+use Rattle.linklog.specs.declared.Turned.TheVariants as turned
+use Rattle.linklog.specs.Appending.{answer_for, room_then}
+use Rattle.linklog.specs.Turns.{turned_to, room_after}
+use Rattle.linklog.specs.Taking.{took_back, room_back}
 
 -- ---- a log
 

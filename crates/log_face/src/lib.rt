@@ -4,14 +4,14 @@
 // of a log that was stopped between two appends. `dvc_log_read` takes a reader's number, 0 before the first block, and gives the next; and
 // `dvc_log_take_back` takes a log back to where the last whole record ends that was read. A refusal's number comes below zero.
 ghost use Rattle.std.specs.Prelude.{◌≡◌, ◌<◌, ◌^◌};
-ghost use Rattle.log.specs.Records.{Received, Closed, record_of};
-ghost use Rattle.log.specs.Taking.{taken_up};
+ghost use Rattle.linklog.specs.Records.{Received, Closed, record_of};
+ghost use Rattle.linklog.specs.Taking.{taken_up};
 ghost use Rattle.log_face.specs.Words.{LOGS, READS, log_word, log_in, log_number, append_number, append_room, bit, end_word, end_in};
 ghost use Rattle.log_face.specs.Words.{read_word, read_in, read_number, turn_number};
 ghost use Rattle.log_face.specs.Words.{turn_room, back_number, back_room, refused_as};
 ghost use Rattle.paper.specs.Refusals.{refusal_number};
 
-use log::{Appended, End, Log, Reader, Turned};
+use linklog::{Appended, End, Log, Reader, Turned};
 use paper::Refusal;
 
 // The numbers of a log: the held blocks below eight, and the log's blocks above.
@@ -125,7 +125,7 @@ pub extern "C" fn dvc_log_append(log: u64, room: &mut [u8], pdu: &[u8]) -> i64
     if LOGS <= log {
         return refused(Refusal::BadCall);
     }
-    log_number(log::append(log_in(log), room, pdu))
+    log_number(linklog::append(log_in(log), room, pdu))
 }
 
 // Appends the local close of a number.
@@ -137,7 +137,7 @@ pub extern "C" fn dvc_log_close(log: u64, room: &mut [u8], number: u32) -> i64
     if LOGS <= log {
         return refused(Refusal::BadCall);
     }
-    log_number(log::close(log_in(log), room, number))
+    log_number(linklog::close(log_in(log), room, number))
 }
 
 // Takes a log up again after a stop between two appends, from its last block.
@@ -145,7 +145,7 @@ pub extern "C" fn dvc_log_close(log: u64, room: &mut [u8], number: u32) -> i64
 pub extern "C" fn dvc_log_take_up(blocks: u32, block: &[u8]) -> i64
     ensures { result ≡ log_number (taken_up blocks block.now) }
 {
-    log_number(log::take_up(blocks, block))
+    log_number(linklog::take_up(blocks, block))
 }
 
 // Reads the block of a number, of a log of so many.
@@ -163,7 +163,7 @@ pub extern "C" fn dvc_log_read(
     if READS <= read {
         return refused(Refusal::BadCall);
     }
-    read_number(log::turn(read_in(read), blocks, number, block, room))
+    read_number(linklog::turn(read_in(read), blocks, number, block, room))
 }
 
 // Takes a log back to the end of the last whole record that was read.
@@ -176,5 +176,5 @@ pub extern "C" fn dvc_log_take_back(read: u64, room: &mut [u8]) -> i64
         return refused(Refusal::BadCall);
     }
     let reader = read_in(read);
-    log_number(log::take_back(reader.end, room))
+    log_number(linklog::take_back(reader.end, room))
 }

@@ -16,17 +16,17 @@ use Rattle.paper.specs.declared.Refusal.{Refusal}
 use Rattle.paper.specs.declared.Refusal.TheVariants.{BadCall, LogFull}
 use Rattle.blocks.specs.Block.{BLOCK, HEAD, PAYLOAD, NONE, block_of, used_in, payload_in}
 use Rattle.blocks.proofs.Blocks.{length_block, used_back}
-use Rattle.log.specs.declared.Log.{Log}
-use Rattle.log.specs.declared.Appended.TheVariants.{Put, Refused}
-use Rattle.log.specs.Records.{Entry, record_of}
-use Rattle.log.specs.Written.{blocks_for}
-use Rattle.log.specs.Reading.{BLOCKS_MAX}
-use Rattle.log.specs.Appending.{HELD_MAX, chained, begun, first_touched, payload_so_far, place_then, last_at, last_in, is_lent}
-use Rattle.log.specs.Appending.{filled_to, filled_with, payload_then, answer_for, room_then}
-use Rattle.log.proofs.Blocks.{drop_behind}
-use Rattle.log.proofs.Filling.{few_blocks}
-use Rattle.log.proofs.Framing.{entry_record, entry_short}
-use Rattle.log.proofs.Lending.{lent_size, lent_last, not_lent}
+use Rattle.linklog.specs.declared.Log.{Log}
+use Rattle.linklog.specs.declared.Appended.TheVariants.{Put, Refused}
+use Rattle.linklog.specs.Records.{Entry, record_of}
+use Rattle.linklog.specs.Written.{blocks_for}
+use Rattle.linklog.specs.Reading.{BLOCKS_MAX}
+use Rattle.linklog.specs.Appending.{HELD_MAX, chained, begun, first_touched, payload_so_far, place_then, last_at, last_in, is_lent}
+use Rattle.linklog.specs.Appending.{filled_to, filled_with, payload_then, answer_for, room_then}
+use Rattle.linklog.proofs.Blocks.{drop_behind}
+use Rattle.linklog.proofs.Filling.{few_blocks}
+use Rattle.linklog.proofs.Framing.{entry_record, entry_short}
+use Rattle.linklog.proofs.Lending.{lent_size, lent_last, not_lent}
 use Rattle.logging.specs.declared.Course.{Course}
 use Rattle.logging.specs.Writing.{is_even, full_blocks, full_text, Run, run_of, answered, appended_to, is_over, run_after}
 use Rattle.logging.proofs.Steps.{stays, goes}

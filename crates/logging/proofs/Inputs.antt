@@ -20,7 +20,7 @@ use Rattle.records.proofs.Desk.{by_needs, by_head, announced_more}
 use Rattle.records.proofs.Framings.{length_front}
 use Rattle.records.proofs.Rests.{rest_has_none}
 use Rattle.blocks.proofs.Bytes.{bytes_drop}
-use Rattle.log.specs.Records.{Received, Closed, CUT, pdu_record, close_record, record_of, needs_of, is_stray, logged_whole, entry_in}
+use Rattle.linklog.specs.Records.{Received, Closed, CUT, pdu_record, close_record, record_of, needs_of, is_stray, logged_whole, entry_in}
 use Rattle.logging.specs.Input.{input_whole, INPUT_MAX}
 
 -- what is needed is told by the length at the front

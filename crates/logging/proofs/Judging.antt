@@ -9,7 +9,7 @@ use lib.Dec.{leb, eqb}
 use Rattle.lists.proofs.Cases.{both}
 use Rattle.paper.specs.declared.Refusal.TheVariants.{NotBlocks}
 use Rattle.blocks.specs.Block.{BLOCK}
-use Rattle.log.specs.Reading.{BLOCKS_MAX, is_log}
+use Rattle.linklog.specs.Reading.{BLOCKS_MAX, is_log}
 use Rattle.logging.specs.declared.Judged.{Judged}
 use Rattle.logging.specs.declared.Judged.TheVariants.{Blocks, NoLog}
 use Rattle.logging.specs.Reading.{judged_by}

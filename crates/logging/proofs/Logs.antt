@@ -14,12 +14,12 @@ use Rattle.paper.specs.declared.Refusal.TheVariants.{NotBlocks}
 use Rattle.paper.specs.Refusals.{refusal_number}
 use Rattle.lines.specs.Lines.{refused_line}
 use Rattle.blocks.specs.Block.{BLOCK, is_good}
-use Rattle.log.specs.declared.Reader.{Reader}
-use Rattle.log.specs.Records.{Entry, RECORD_MAX, entry_in}
-use Rattle.log.specs.Reading.{Course, Seeking, Gave, nothing, entered, taken, read_from, is_log, records_read, entries_read}
-use Rattle.log.specs.Appending.{ROOM}
-use Rattle.log.specs.Turns.{at_first, is_reader, is_last_of, is_within, course_in, brought_by, gave_to, reader_with, turned_to, room_after}
-use Rattle.log.proofs.Readers.{reader_rests, reader_says, bad_turn, good_turn}
+use Rattle.linklog.specs.declared.Reader.{Reader}
+use Rattle.linklog.specs.Records.{Entry, RECORD_MAX, entry_in}
+use Rattle.linklog.specs.Reading.{Course, Seeking, Gave, nothing, entered, taken, read_from, is_log, records_read, entries_read}
+use Rattle.linklog.specs.Appending.{ROOM}
+use Rattle.linklog.specs.Turns.{at_first, is_reader, is_last_of, is_within, course_in, brought_by, gave_to, reader_with, turned_to, room_after}
+use Rattle.linklog.proofs.Readers.{reader_rests, reader_says, bad_turn, good_turn}
 use Rattle.logging.specs.declared.Judged.TheVariants.{Blocks, NoLog}
 use Rattle.logging.specs.Lines.{entry_line, lines_of}
 use Rattle.logging.specs.Reading.{report, judged_by, text_of, told_with, told_by, told_from, printed_by}

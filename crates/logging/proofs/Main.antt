@@ -22,11 +22,11 @@ use Rattle.records.specs.Items.{Stood, items_in, read_by, all_of}
 use Rattle.records.proofs.Items as items
 use Rattle.blocks.specs.Check.{check_of, cleared, summed, carried}
 use Rattle.blocks.specs.Block.{head_of, body_of, block_of}
-use Rattle.log.specs.Records.{Received, Closed, entry_in, record_of, close_record, needs_of}
-use Rattle.log.specs.Written.{marked, marked_all, first_place, block_with, blocks_from, blocks_for, written}
-use Rattle.log.specs.Reading.{BLOCKS_MAX, is_log, read_from, records_read, entries_read}
-use Rattle.log.specs.Appending.{ROOM}
-use Rattle.log.specs.Promises.{log_of, blocks_of, fit}
+use Rattle.linklog.specs.Records.{Received, Closed, entry_in, record_of, close_record, needs_of}
+use Rattle.linklog.specs.Written.{marked, marked_all, first_place, block_with, blocks_from, blocks_for, written}
+use Rattle.linklog.specs.Reading.{BLOCKS_MAX, is_log, read_from, records_read, entries_read}
+use Rattle.linklog.specs.Appending.{ROOM}
+use Rattle.linklog.specs.Promises.{log_of, blocks_of, fit}
 use Rattle.logging.specs.Input.{input_whole, INPUT_MAX, entries_in}
 use Rattle.logging.specs.Writing.{Run, run_of, run_after, start_course, sent, output_for}
 use Rattle.logging.specs.Lines.{entry_line, lines_of}

@@ -10,7 +10,7 @@ use Rattle.records.specs.Walks.{rest_of}
 use Rattle.records.specs.Items.{after_items, all_of}
 use Rattle.records.proofs.Rests.{rest_has_none}
 use Rattle.records.proofs.Items.{over_both, items_more, none_taken}
-use Rattle.log.specs.Records.{Entry, entry_in}
+use Rattle.linklog.specs.Records.{Entry, entry_in}
 use Rattle.logging.specs.declared.Course.{Course}
 use Rattle.logging.specs.Input.{input_whole, entries_in}
 use Rattle.logging.specs.Writing.{Run, run_of, is_over, run_after, end_text, sent}

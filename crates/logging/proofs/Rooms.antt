@@ -11,8 +11,8 @@ use lib.ListN.{length, take, drop, length-take}
 use Rattle.lists.proofs.Laid.{take_least}
 use Rattle.lists.proofs.Lent.{part_lent}
 use Rattle.blocks.specs.Block.{BLOCK, PAYLOAD, used_in}
-use Rattle.log.specs.declared.Log.{Log}
-use Rattle.log.specs.Appending.{begun, last_at, last_in}
+use Rattle.linklog.specs.declared.Log.{Log}
+use Rattle.linklog.specs.Appending.{begun, last_at, last_in}
 use Rattle.logging.specs.Writing.{is_even, full_blocks, full_text, last_text}
 
 pub at_none : (log : Log) → log.held ≡ 0 → 0 ≡ last_at log

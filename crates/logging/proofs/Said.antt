@@ -15,8 +15,8 @@ use Rattle.lines.proofs.Spelling.{length_hex, field_none, field_some}
 use Rattle.records.specs.Walks.{front_of}
 use Rattle.records.specs.Items.{items_in, after_items}
 use Rattle.records.proofs.Items as items
-use Rattle.log.specs.Records.{Entry, logged_whole, entry_in}
-use Rattle.log.proofs.Framing.{log_framing}
+use Rattle.linklog.specs.Records.{Entry, logged_whole, entry_in}
+use Rattle.linklog.proofs.Framing.{log_framing}
 use Rattle.logging.specs.Lines.{TEXT_PER_BYTE, entry_line, lines_of, said_of}
 
 -- two digits for a byte, or one for none

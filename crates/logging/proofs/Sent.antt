@@ -16,18 +16,18 @@ use Rattle.paper.specs.Refusals.{refusal_number}
 use Rattle.records.specs.Walks.{size_of}
 use Rattle.records.specs.Items.{after_items}
 use Rattle.blocks.specs.Block.{BLOCK, PAYLOAD}
-use Rattle.log.specs.declared.Log.{Log}
-use Rattle.log.specs.declared.Appended.{Appended}
-use Rattle.log.specs.declared.Appended.TheVariants.{Put, Refused}
-use Rattle.log.specs.Records.{Entry, record_of}
-use Rattle.log.specs.Written.{marked_all, marked, blocks_from, blocks_for, written}
-use Rattle.log.specs.Reading.{BLOCKS_MAX}
-use Rattle.log.specs.Appending.{ROOM, begun, first_touched, last_in, is_lent, filled_to, payload_then, answer_for, room_then, last_block}
-use Rattle.log.specs.Promises.{log_of, blocks_of, fit, Holds, flashed, log_then}
-use Rattle.log.proofs.Blocks.{take_behind, length_marked, length_written}
-use Rattle.log.proofs.Fits.{fit_first, fit_none, fit_all}
-use Rattle.log.proofs.Flash.{holds_empty}
-use Rattle.log.proofs.Runs.{records_more, puts, full}
+use Rattle.linklog.specs.declared.Log.{Log}
+use Rattle.linklog.specs.declared.Appended.{Appended}
+use Rattle.linklog.specs.declared.Appended.TheVariants.{Put, Refused}
+use Rattle.linklog.specs.Records.{Entry, record_of}
+use Rattle.linklog.specs.Written.{marked_all, marked, blocks_from, blocks_for, written}
+use Rattle.linklog.specs.Reading.{BLOCKS_MAX}
+use Rattle.linklog.specs.Appending.{ROOM, begun, first_touched, last_in, is_lent, filled_to, payload_then, answer_for, room_then, last_block}
+use Rattle.linklog.specs.Promises.{log_of, blocks_of, fit, Holds, flashed, log_then}
+use Rattle.linklog.proofs.Blocks.{take_behind, length_marked, length_written}
+use Rattle.linklog.proofs.Fits.{fit_first, fit_none, fit_all}
+use Rattle.linklog.proofs.Flash.{holds_empty}
+use Rattle.linklog.proofs.Runs.{records_more, puts, full}
 use Rattle.logging.specs.declared.Course.{Course}
 use Rattle.logging.specs.Writing.{is_even, full_blocks, full_text, last_text, run_of, is_over, run_after, empty_log, start_course, end_text}
 use Rattle.logging.proofs.Steps.{is_put, is_refused_law, goes}

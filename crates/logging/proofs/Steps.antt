@@ -9,11 +9,11 @@ use lib.Dec.{eqb}
 use Rattle.lists.proofs.Cases.{true_not_false}
 use Rattle.paper.specs.declared.Refusal.{Refusal}
 use Rattle.paper.specs.Refusals.{refusal_number}
-use Rattle.log.specs.declared.Log.{Log}
-use Rattle.log.specs.declared.Appended.{Appended}
-use Rattle.log.specs.declared.Appended.TheVariants.{Put, Refused}
-use Rattle.log.specs.Records.{Entry, record_of}
-use Rattle.log.specs.Appending.{answer_for, room_then}
+use Rattle.linklog.specs.declared.Log.{Log}
+use Rattle.linklog.specs.declared.Appended.{Appended}
+use Rattle.linklog.specs.declared.Appended.TheVariants.{Put, Refused}
+use Rattle.linklog.specs.Records.{Entry, record_of}
+use Rattle.linklog.specs.Appending.{answer_for, room_then}
 use Rattle.logging.specs.declared.Course.{Course}
 use Rattle.logging.specs.Writing.{full_text, Run, run_of, answered, appended_to, is_over, run_after}
 

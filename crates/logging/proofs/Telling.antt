@@ -18,14 +18,14 @@ use Rattle.records.specs.Items.{items_in}
 use Rattle.records.proofs.Framings.{records_none}
 use Rattle.blocks.specs.Block.{PAYLOAD, NONE, used_in, place_in, payload_in, is_good}
 use Rattle.blocks.proofs.Judged.{good_says, uses_le}
-use Rattle.log.specs.declared.Reader.{Reader}
-use Rattle.log.specs.declared.Turned.{Turned}
-use Rattle.log.specs.declared.Turned.TheVariants.{Stands, Refused}
-use Rattle.log.specs.Records.{logged_whole, entry_in}
-use Rattle.log.specs.Reading.{Seeking, Within, Gave, nothing, entered, taken}
-use Rattle.log.specs.Appending.{ROOM}
-use Rattle.log.specs.Turns.{at_first, is_reader, is_last_of, course_in, brought_by, gave_to, reader_with, turned_to, room_after}
-use Rattle.log.proofs.Readers.{reader_says, no_reader, good_turn}
+use Rattle.linklog.specs.declared.Reader.{Reader}
+use Rattle.linklog.specs.declared.Turned.{Turned}
+use Rattle.linklog.specs.declared.Turned.TheVariants.{Stands, Refused}
+use Rattle.linklog.specs.Records.{logged_whole, entry_in}
+use Rattle.linklog.specs.Reading.{Seeking, Within, Gave, nothing, entered, taken}
+use Rattle.linklog.specs.Appending.{ROOM}
+use Rattle.linklog.specs.Turns.{at_first, is_reader, is_last_of, course_in, brought_by, gave_to, reader_with, turned_to, room_after}
+use Rattle.linklog.proofs.Readers.{reader_says, no_reader, good_turn}
 use Rattle.logging.specs.Lines.{lines_of, said_of}
 use Rattle.logging.specs.Reading.{text_of, told_with, told_by}
 use Rattle.logging.proofs.Turns.{payload_few, none_whole, gives, size_brought}

@@ -18,10 +18,10 @@ use Rattle.records.proofs.Framings.{records_none}
 use Rattle.records.proofs.Rests.{size_first, size_within, rest_none, rest_has_none}
 use Rattle.records.proofs.Desk.{announced_more}
 use Rattle.blocks.specs.Block.{HEAD, PAYLOAD, NONE, used_in, place_in, payload_in}
-use Rattle.log.specs.Records.{CUT, RECORD_MAX, needs_of, is_stray, logged_whole}
-use Rattle.log.specs.Reading.{Course, Seeking, Within, Gave, nothing, through, entered}
-use Rattle.log.specs.Turns.{is_within, brought_by}
-use Rattle.log.proofs.Framing.{log_framing, stray_for, needs_for, whole_for, long_whole}
+use Rattle.linklog.specs.Records.{CUT, RECORD_MAX, needs_of, is_stray, logged_whole}
+use Rattle.linklog.specs.Reading.{Course, Seeking, Within, Gave, nothing, through, entered}
+use Rattle.linklog.specs.Turns.{is_within, brought_by}
+use Rattle.linklog.proofs.Framing.{log_framing, stray_for, needs_for, whole_for, long_whole}
 use Rattle.logging.proofs.Inputs.{needs_head, logged_head}
 
 -- ---- the beginning of a record

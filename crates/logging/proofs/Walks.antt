@@ -12,7 +12,7 @@ use Rattle.lines.proofs.Ends.{ends}
 use Rattle.records.specs.Walks.{front_of, records_of, size_of}
 use Rattle.records.proofs.Items as items
 use Rattle.blocks.specs.Block.{BLOCK, PAYLOAD}
-use Rattle.log.specs.Records.{record_of, entry_in}
+use Rattle.linklog.specs.Records.{record_of, entry_in}
 use Rattle.logging.specs.declared.Course.{Course}
 use Rattle.logging.specs.Input.{input_whole}
 use Rattle.logging.specs.Writing.{Run, run_of, run_after, turned_to}

@@ -3,7 +3,7 @@ use Rattle.std.specs.Prelude.{ℕ, ◌+◌, List}
 use Rattle.records.specs.Records.{LENGTH}
 use Rattle.records.specs.Desk.{whole_by}
 use Rattle.records.specs.Items.{items_in}
-use Rattle.log.specs.Records.{Entry, needs_of, entry_in}
+use Rattle.linklog.specs.Records.{Entry, needs_of, entry_in}
 
 -- the bytes of the record at the front, or 0 where no whole record stands there: any length but a close's announces a PDU
 unfoldable pub input_whole : List ℕ → ℕ

@@ -4,8 +4,8 @@ use Rattle.lines.specs.Decimal.{field}
 use Rattle.lines.specs.Hex.{bytes_field}
 use Rattle.lines.specs.Lines.{SPACE, LF}
 use Rattle.records.specs.Items.{items_in}
-use Rattle.log.specs.Records.{Entry, Received, Closed, logged_whole, entry_in}
-use Rattle.log.specs.Appending.{ROOM}
+use Rattle.linklog.specs.Records.{Entry, Received, Closed, logged_whole, entry_in}
+use Rattle.linklog.specs.Appending.{ROOM}
 
 -- "pdu "
 abbrev pub PDU : List ℕ

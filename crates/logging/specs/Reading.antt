@@ -4,12 +4,12 @@ use Rattle.paper.specs.declared.Refusal.TheVariants.{NotBlocks}
 use Rattle.paper.specs.Refusals.{refusal_number}
 use Rattle.lines.specs.Lines.{refused_line}
 use Rattle.blocks.specs.Block.{BLOCK}
-use Rattle.log.specs.declared.Reader.{Reader}
-use Rattle.log.specs.declared.Turned.{Turned}
-use Rattle.log.specs.declared.Turned.TheVariants.{Stands, Refused}
-use Rattle.log.specs.Records.{entry_in}
-use Rattle.log.specs.Reading.{is_log, entries_read}
-use Rattle.log.specs.Turns.{at_first, is_reader, gave_to, turned_to, room_after}
+use Rattle.linklog.specs.declared.Reader.{Reader}
+use Rattle.linklog.specs.declared.Turned.{Turned}
+use Rattle.linklog.specs.declared.Turned.TheVariants.{Stands, Refused}
+use Rattle.linklog.specs.Records.{entry_in}
+use Rattle.linklog.specs.Reading.{is_log, entries_read}
+use Rattle.linklog.specs.Turns.{at_first, is_reader, gave_to, turned_to, room_after}
 use Rattle.logging.specs.declared.Judged.{Judged}
 use Rattle.logging.specs.declared.Judged.TheVariants.{Blocks, NoLog}
 use Rattle.logging.specs.declared.Told.{Told}

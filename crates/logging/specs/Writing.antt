@@ -4,14 +4,14 @@ use Rattle.std.specs.Prelude.{ℕ, ◌-◌, ◌*◌, Bool, cond, not, List, [], 
 use Rattle.paper.specs.Refusals.{refusal_number}
 use Rattle.records.specs.Items.{Stood, stood_by}
 use Rattle.blocks.specs.Block.{BLOCK, PAYLOAD}
-use Rattle.log.specs.declared.Log.{Log}
-use Rattle.log.specs.declared.Appended.{Appended}
-use Rattle.log.specs.declared.Appended.TheVariants.{Put, Refused}
-use Rattle.log.specs.Records.{Entry, record_of, entry_in}
-use Rattle.log.specs.Written.{written}
-use Rattle.log.specs.Reading.{BLOCKS_MAX}
-use Rattle.log.specs.Promises.{fit}
-use Rattle.log.specs.Appending.{begun, last_in, answer_for, room_then}
+use Rattle.linklog.specs.declared.Log.{Log}
+use Rattle.linklog.specs.declared.Appended.{Appended}
+use Rattle.linklog.specs.declared.Appended.TheVariants.{Put, Refused}
+use Rattle.linklog.specs.Records.{Entry, record_of, entry_in}
+use Rattle.linklog.specs.Written.{written}
+use Rattle.linklog.specs.Reading.{BLOCKS_MAX}
+use Rattle.linklog.specs.Promises.{fit}
+use Rattle.linklog.specs.Appending.{begun, last_in, answer_for, room_then}
 use Rattle.logging.specs.declared.Course.{Course}
 use Rattle.logging.specs.declared.Stand.{Stand}
 use Rattle.logging.specs.Input.{input_whole, entries_in}

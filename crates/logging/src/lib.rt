@@ -5,7 +5,7 @@
 // has no room for the record) stands in the course: what is behind it is not logged. Nothing is kept but the course and the room.
 //
 // Reading begins with `judge`, which refuses by its size a file that is no log (22). The log's blocks then go to `tell`, one by one with the
-// reader that came out before, at first `log::begin()`, and with its room; it lays the lines of the records that the block gives. Each takes
+// reader that came out before, at first `linklog::begin()`, and with its room; it lays the lines of the records that the block gives. Each takes
 // anything.
 ghost use Rattle.std.specs.Prelude.{◌≡◌, ◌+◌, ◌*◌, ◌≤◌, length, take, drop};
 ghost use Rattle.lists.specs.Bytes.{laid};
@@ -14,16 +14,16 @@ ghost use Rattle.records.specs.Records.{LENGTH};
 ghost use Rattle.records.specs.Walks.{records_of, size_of, rest_of};
 ghost use Rattle.blocks.specs.Block.{BLOCK, PAYLOAD};
 ghost use Rattle.lines.specs.Decimal.{FIELD_MAX};
-ghost use Rattle.log.specs.Records.{Received, Closed, entry_in, record_of};
-ghost use Rattle.log.specs.Appending.{ROOM, last_at, answer_for, room_then};
+ghost use Rattle.linklog.specs.Records.{Received, Closed, entry_in, record_of};
+ghost use Rattle.linklog.specs.Appending.{ROOM, last_at, answer_for, room_then};
 ghost use Rattle.logging.specs.Input.{input_whole};
 ghost use Rattle.logging.specs.Writing.{is_even, full_text, last_text, step_of, put_of, is_over, start_course, turned_to, stand_of};
 ghost use Rattle.logging.specs.Lines.{TEXT_PER_BYTE, SAID_MAX, entry_line, said_of};
-ghost use Rattle.log.specs.Turns.{room_after};
+ghost use Rattle.linklog.specs.Turns.{room_after};
 ghost use Rattle.logging.specs.Reading.{judged_by, told_by, text_of};
 
 use blocks::{BLOCK, PAYLOAD};
-use log::{Appended, BLOCKS_MAX, Log, ROOM, Reader, Turned};
+use linklog::{Appended, BLOCKS_MAX, Log, ROOM, Reader, Turned};
 use paper::Refusal;
 use records::{CLOSE, CLOSE_SIZE, LENGTH};
 
@@ -113,9 +113,9 @@ fn append(log: Log, room: &mut [u8], bytes: &[u8]) -> Appended
     let announced = numbers::short_at(bytes, 0);
     if announced as u32 == CLOSE {
         let number = numbers::number(&bytes[LENGTH..]);
-        return log::close(log, room, number);
+        return linklog::close(log, room, number);
     }
-    log::append(log, room, &bytes[LENGTH..])
+    linklog::append(log, room, &bytes[LENGTH..])
 }
 
 // Where the log's last block stands in the room.
@@ -334,7 +334,7 @@ fn lines_of(records: &[u8], out: &mut [u8]) -> usize
     let mut at = 0;
     let mut used = 0;
     while at < records.len() {
-        let n = log::whole(&records[at..]);
+        let n = linklog::whole(&records[at..]);
         if n == 0 {
             break;
         }
@@ -381,7 +381,7 @@ pub fn tell(
     ensures room_after { room.new ≡ room_after reader blocks number block.now room.old }
     ensures out_after { out.new ≡ laid out.old 0 (text_of reader blocks number block.now room.old) }
 {
-    match log::turn(reader, blocks, number, block, room) {
+    match linklog::turn(reader, blocks, number, block, room) {
         Turned::Stands(next) => {
             let n = lists::lesser(next.whole + next.behind, room.len());
             let laid = say(&room[..n], out);

@@ -6,13 +6,13 @@
 // printed is the work of `logging`.
 ghost use Rattle.std.specs.Prelude.{◌+◌, ◌≤◌, ◌≡◌, length};
 ghost use Rattle.blocks.specs.Block.{BLOCK};
-ghost use Rattle.log.specs.Reading.{BLOCKS_MAX};
+ghost use Rattle.linklog.specs.Reading.{BLOCKS_MAX};
 ghost use Rattle.logging.specs.Lines.{SAID_MAX};
 
 use blocks::BLOCK;
 use files::Filled;
 use libc::{SEEK_END, SEEK_SET, STDERR_FILENO};
-use log::{ROOM, Reader};
+use linklog::{ROOM, Reader};
 use logging::{Judged, SAID_MAX};
 
 // The bytes of a piece: 64 blocks.
@@ -73,7 +73,7 @@ fn read(fd: i32, name: &[u8], blocks: u32, buffer: &mut [u8], room: &mut [u8], o
     requires { (blocks ≤ BLOCKS_MAX) × ((BLOCK ≤ length buffer.old) × (SAID_MAX ≤ length out.old)) }
     ensures { name.now ≡ name.now }
 {
-    let mut reader = log::begin();
+    let mut reader = linklog::begin();
     let mut number = 0;
     while number < blocks {
         let count = lists::lesser((blocks - number) as usize, buffer.len() / BLOCK);

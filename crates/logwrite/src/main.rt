@@ -11,7 +11,7 @@ ghost use Rattle.blocks.specs.Block.{BLOCK, PAYLOAD};
 use blocks::{BLOCK, PAYLOAD};
 use files::Filled;
 use libc::{STDERR_FILENO, STDIN_FILENO};
-use log::{BLOCKS_MAX, ROOM};
+use linklog::{BLOCKS_MAX, ROOM};
 use logging::{Course, INPUT_MAX};
 
 // The bytes of the output: for an input of the longest record, all blocks that become full, of which one was begun before.

@@ -3,7 +3,7 @@ use mathlib.Core.Path.{refl}
 use borrow.Author.Tests.{le-leb, lt-leb, eq-eqb, ne_eqb}
 use Prim.Native.Nat.{◌/◌, ◌%◌}
 use Rattle.blocks.specs.Block.{BLOCK}
-use Rattle.log.specs.Reading.{BLOCKS_MAX, is_log}
+use Rattle.linklog.specs.Reading.{BLOCKS_MAX, is_log}
 use Rattle.logging.specs.Reading.{judged_by}
 use borrow.Author.Rules.{rules}
 use Rattle.logging.proofs.judge.Statement.{statement}

@@ -5,8 +5,8 @@ use Prim.Native.Nat.{◌+◌, ◌-◌, ◌≤◌, ◌<◌}
 use lib.ListN.{length, take, drop, length-take, length-drop}
 use Rattle.lists.proofs.Laid.{to_end, from_to, length_laid}
 use Rattle.records.specs.Records.{LENGTH}
-use Rattle.log.specs.Records.{logged_whole}
-use Rattle.log.proofs.Framing.{log_framing}
+use Rattle.linklog.specs.Records.{logged_whole}
+use Rattle.linklog.proofs.Framing.{log_framing}
 use Rattle.logging.proofs.Inputs.{logged_head}
 use Rattle.logging.proofs.Said.{Left, begins, goes_on_law, ends_so}
 use borrow.Author.Rules.{rules}

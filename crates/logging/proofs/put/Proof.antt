@@ -3,7 +3,7 @@ use mathlib.Core.Path.{refl, sym, ap, ◌∙◌}
 use mathlib.Core.List.{[]}
 use lib.Seq.{length-take-le}
 use Rattle.lists.specs.Bytes.{laid}
-use Rattle.log.specs.Records.{entry_in}
+use Rattle.linklog.specs.Records.{entry_in}
 use Rattle.logging.specs.Writing.{run_of}
 use Rattle.logging.proofs.Steps.{is_put, is_refused_law}
 use borrow.Author.Rules.{rules}

@@ -2,7 +2,7 @@
 use mathlib.Core.Path.{sym}
 use lib.Seq.{length-take-le}
 use Rattle.lists.proofs.Laid.{take_least}
-use Rattle.log.specs.Appending.{ROOM}
+use Rattle.linklog.specs.Appending.{ROOM}
 use borrow.Author.Rules.{rules}
 use native.Mathlib.Omega.{arith}
 use Rattle.logging.proofs.say.Statement.{statement}

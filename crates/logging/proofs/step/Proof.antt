@@ -2,7 +2,7 @@
 use mathlib.Core.Path.{refl, sym, ◌∙◌}
 use mathlib.Core.List.{[]}
 use Rattle.lists.specs.Bytes.{laid}
-use Rattle.log.specs.Records.{entry_in}
+use Rattle.linklog.specs.Records.{entry_in}
 use Rattle.logging.specs.Writing.{run_of}
 use Rattle.logging.proofs.Steps.{stays, goes, no_why}
 use borrow.Author.Rules.{rules}
