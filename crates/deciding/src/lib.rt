@@ -2,6 +2,8 @@
 // ready, its level, the record that was found for the matter's channel, and whether there is room for it.
 //
 // Who keeps the records finds before, and puts back after: `table` by value, or anything else.
+#![tactic(auto)]
+
 ghost use Rattle.std.specs.Prelude.{◌≡◌};
 ghost use Rattle.deciding.specs.Deciding.{level_for, refusing, readying, decided_of};
 

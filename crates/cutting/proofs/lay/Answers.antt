@@ -10,10 +10,6 @@ use borrow.Author.Rules.{rules}
 use native.Mathlib.Omega.{arith}
 use Rattle.cutting.proofs.lay.Goals as goal
 
--- the place where the part was lent
-abbrev lent : tie.After-is-first → tie.After-block-end
-lent c = c.before.before
-
 pub slice_bounds-block-count : goal.slice_bounds-block-count
 slice_bounds-block-count c = let a = c.args in
     omega (arith, c.block_end-next.ensures, end_from_law a.number (length a.message.now) a.at)
@@ -35,19 +31,19 @@ unfolding MESSAGE_MAX
 overflow_cast-total c = search rules
 
 pub returns-then-is_first : goal.returns-then-is_first
-returns-then-is_first c = let part : take ((lent c).block-end.result - (lent c).before.before.before.args.at)
-    (drop (lent c).before.before.before.args.at (lent c).before.before.before.args.message.now)
-    ≡ block (lent c).before.before.before.args.number (lent c).before.before.before.args.message.now
-    (lent c).before.before.before.args.at = part_block _ _ _ _ (lent c).block-end.ensures in
+returns-then-is_first c = let part : take (c.block_end-next.result - c.args.at)
+    (drop c.args.at c.args.message.now)
+    ≡ block c.args.number c.args.message.now
+    c.args.at = part_block _ _ _ _ c.block_end-next.ensures in
     let lay = rw (part) at c.data_first-len.ensures in
     rw (cut_first _ _ _ (sym c.is_first.ensures ∙ c.if-is_first.true))
-    (record { value = simp (lay.0, (lent c).block-end.ensures); out_after = lay.1 })
+    (record { value = simp (lay.0, c.block_end-next.ensures); out_after = lay.1 })
 
 pub returns : goal.returns
-returns c = let part : take ((lent c).block-end.result - (lent c).before.before.before.args.at)
-    (drop (lent c).before.before.before.args.at (lent c).before.before.before.args.message.now)
-    ≡ block (lent c).before.before.before.args.number (lent c).before.before.before.args.message.now
-    (lent c).before.before.before.args.at = part_block _ _ _ _ (lent c).block-end.ensures in
-    let lay = rw (part) at c.«data».ensures in
+returns c = let part : take (c.block_end-next.result - c.args.at)
+    (drop c.args.at c.args.message.now)
+    ≡ block c.args.number c.args.message.now
+    c.args.at = part_block _ _ _ _ c.block_end-next.ensures in
+    let lay = rw (part) at c.data-len.ensures in
     rw (cut_data _ _ _ (sym c.is_first.ensures ∙ c.if-is_first.false))
-    (record { value = simp (lay.0, (lent c).block-end.ensures); out_after = lay.1 })
+    (record { value = simp (lay.0, c.block_end-next.ensures); out_after = lay.1 })
