@@ -9,7 +9,7 @@ use channel::{Answer, Ask, Change, Concern, OUR_VERSION, Part, Record, Reply, Tu
 use paper::Refusal;
 
 // What is to be decided.
-#[derive(Drop)]
+#[derive(Clone, Copy)]
 pub enum Matter {
     // A PDU that reading refuses, and whether it carries its channel's number whole: then it is garbled.
     Unread { why: Refusal, whole: bool },
@@ -20,7 +20,7 @@ pub enum Matter {
 }
 
 // What a matter comes to: ready or not, the level, and what is done to its channel.
-#[derive(Drop)]
+#[derive(Clone, Copy)]
 pub struct Decided {
     pub ready: bool,
     pub level: u8,

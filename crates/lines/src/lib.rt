@@ -39,7 +39,7 @@ pub const REFUSED_MAX: usize = WORD_MAX + FIELD_MAX;
 pub const MESSAGE_LINE_MAX: usize = 2 * FIELD_MAX + 2 * MESSAGE_MAX + 1;
 
 // A field, at the end of its scratch.
-#[derive(Drop)]
+#[derive(Clone, Copy)]
 struct Digits {
     bytes: [u8; FIELD_MAX],
     start: usize,

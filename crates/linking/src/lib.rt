@@ -23,28 +23,28 @@ use shore::{Given, Said, Shore};
 use table::Table;
 
 // What both hosts keep beside the stores.
-#[derive(Drop)]
+#[derive(Clone, Copy)]
 pub struct Ends {
     pub panel: Table,
     pub shore: Shore,
 }
 
 // What comes of calls: what both hosts keep, and how many bytes of text were laid.
-#[derive(Drop)]
+#[derive(Clone, Copy)]
 pub struct Crossed {
     pub ends: Ends,
     pub laid: usize,
 }
 
 // What comes of a record: whether it is none, too.
-#[derive(Drop)]
+#[derive(Clone, Copy)]
 pub struct Stepped {
     pub crossed: Crossed,
     pub bad: bool,
 }
 
 // What comes of one PDU of a message, and where its next block starts.
-#[derive(Drop)]
+#[derive(Clone, Copy)]
 struct Sent {
     crossed: Crossed,
     next: usize,

@@ -12,7 +12,7 @@ use channel::{Change, Record, Stage};
 use paper::{MESSAGE_MAX, PARTS};
 
 // What a host's status lamp shows. In a sound table it is what a recount of the records comes to.
-#[derive(Drop)]
+#[derive(Clone, Copy)]
 pub struct Totals {
     // The open channels.
     pub channels: u32,
@@ -20,7 +20,7 @@ pub struct Totals {
     pub awaited: u32,
 }
 
-#[derive(Drop)]
+#[derive(Clone, Copy)]
 pub struct Table {
     pub totals: Totals,
     pub ready: bool,
@@ -31,7 +31,7 @@ pub struct Table {
 
 // Where a number stands: the place of the record that holds it, and the record. Where none holds it, the place is sixteen
 // and the record a free one.
-#[derive(Drop)]
+#[derive(Clone, Copy)]
 pub struct Found {
     pub place: usize,
     pub row: Record,
