@@ -7,15 +7,11 @@ use lib.Signed.{lt_z}
 use mir.Syntax.{w32}
 use mir.Facts.{to_z-of_z}
 use Rattle.shore.specs.Rules.{is_below_zero}
-use Rattle.shore.proofs.below_zero.Statement.{statement}
-use Rattle.shore.proofs.below_zero.Tie as tie
+use Rattle.shore.proofs.below_zero.Goals as goal
 
 below : (status : ℤ) → lt_z status (pos 0) ≡ is_below_zero status
 below (pos k) = le-ltb k 0 (omega arith)
 below (negsuc k) = refl
 
-returns : tie.Need-returns
+pub returns : goal.returns
 returns c = ap (λ (z : ℤ). lt_z z (pos 0)) (to_z-of_z {w = w32} c.ranges.status) ∙ below c.args.status
-
-pub below_zero_spec : {M : Type 1} → statement M
-below_zero_spec = tie.close (tie.spec returns)
