@@ -2,12 +2,8 @@
 use mathlib.Core.Path.{refl}
 use Rattle.records.specs.Walks.{size_of}
 use Rattle.linklog.specs.Turns.{is_within}
-use Rattle.linklog.proofs.seeking.Statement.{statement}
-use Rattle.linklog.proofs.seeking.Tie as tie
+use Rattle.linklog.proofs.seeking.Goals as goal
 
-returns : tie.Need-returns
+pub returns : goal.returns
 unfolding is_within size_of
 returns c = refl
-
-pub seeking_spec : {M : Type 1} → statement M
-seeking_spec = tie.close (tie.spec returns)
