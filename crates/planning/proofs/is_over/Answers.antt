@@ -2,12 +2,8 @@
 use Rattle.paper.specs.Sizes.{SETS_MAX}
 use Rattle.planning.specs.Course.{is_over}
 use Rattle.std.proofs.Common.{refl}
-use Rattle.planning.proofs.is_over.Statement.{statement}
-use Rattle.planning.proofs.is_over.Tie as tie
+use Rattle.planning.proofs.is_over.Goals as goal
 
-returns : tie.Need-returns
+pub returns : goal.returns
 unfolding is_over SETS_MAX
 returns c = refl
-
-pub is_over_spec : {M : Type 1} → statement M
-is_over_spec = tie.close (tie.spec returns)
