@@ -28,14 +28,14 @@ use rules::{Broken, Rule};
 use table::Table;
 
 // What spoiled a channel: the place of the PDU, and the refusal that it got.
-#[derive(Drop)]
+#[derive(Clone, Copy)]
 pub struct Note {
     pub place: u64,
     pub why: Refusal,
 }
 
 // Why a PDU got its answer.
-#[derive(Drop)]
+#[derive(Clone, Copy)]
 pub enum Cause {
     // It was accepted; or it got refusal 1, which is the call's.
     NoCause,
@@ -46,7 +46,7 @@ pub enum Cause {
 }
 
 // What is said of the place that is sought.
-#[derive(Drop)]
+#[derive(Clone, Copy)]
 pub enum Said {
     // Nothing: the records so far don't have it.
     NotYet,
@@ -59,7 +59,7 @@ pub enum Said {
 }
 
 // How a search stands after the PDUs so far: the manager's table, the notes, the place of the next PDU, and what is said.
-#[derive(Drop)]
+#[derive(Clone, Copy)]
 pub struct Course {
     pub table: Table,
     pub notes: [Note; PARTS],
@@ -68,21 +68,21 @@ pub struct Course {
 }
 
 // Where a run stands between two reads: the course, and how many bytes were left.
-#[derive(Drop)]
+#[derive(Clone, Copy)]
 pub struct Stand {
     pub course: Course,
     pub had: usize,
 }
 
 // What a walk through records gives: the course, and how many bytes of the input it took.
-#[derive(Drop)]
+#[derive(Clone, Copy)]
 struct Walked {
     course: Course,
     taken: usize,
 }
 
 // The place that is sought, by the program's argument.
-#[derive(Drop)]
+#[derive(Clone, Copy)]
 pub enum Sought {
     Place(u64),
     // Of no record: 2^64 or more.

@@ -4,6 +4,8 @@
 // their code, with no table, no store and no bytes in hand: it takes the channel's record and what is asked of it, and says
 // what becomes of the record and of the part, what is answered and what is sent. `take` is the part that joins messages.
 // `garbles` stands beside `act`: a block that reading refuses, on an open channel.
+#![tactic(auto)]
+
 ghost use Rattle.std.specs.Prelude.{◌≡◌, ◌-◌};
 ghost use Rattle.channel.specs.Answers.{concern_of, number_of};
 ghost use Rattle.channel.specs.Stages.{added, took_first, took};
@@ -13,7 +15,7 @@ ghost use Rattle.channel.specs.Turns.{answering, declining, creating, landing, b
 use paper::{COUNT_MAX, MESSAGE_MAX, Refusal};
 
 // How far a channel's message is.
-#[derive(Drop)]
+#[derive(Clone, Copy)]
 pub enum Stage {
     // No message is being joined.
     Idle,
@@ -25,7 +27,7 @@ pub enum Stage {
 
 // A channel's record. It is taken while it holds a number, open or awaited. A free one is not taken, and is as Start made
 // it: number 0, class 0, idle, count 0, not awaited.
-#[derive(Drop)]
+#[derive(Clone, Copy)]
 pub struct Record {
     pub number: u32,
     pub stage: Stage,
@@ -40,7 +42,7 @@ pub struct Record {
 }
 
 // Why a Create request is declined.
-#[derive(Drop)]
+#[derive(Clone, Copy)]
 pub enum Decline {
     // Its name is not in the listener list.
     Unlisted,
@@ -49,14 +51,14 @@ pub enum Decline {
 }
 
 // Which channel a refusal concerns: refusals 1 to 7 none, 8 to 13 the one with the number.
-#[derive(Drop)]
+#[derive(Clone, Copy)]
 pub enum Concern {
     NoChannel,
     Channel(u32),
 }
 
 // The answer to a call.
-#[derive(Drop)]
+#[derive(Clone, Copy)]
 pub enum Answer {
     // The level in use.
     Ready { level: u8 },
@@ -72,14 +74,14 @@ pub enum Answer {
 }
 
 // What a data PDU offers beside its block: a Length, or more of the message.
-#[derive(Drop)]
+#[derive(Clone, Copy)]
 pub enum Offer {
     First(u32),
     More,
 }
 
 // What data does to a channel.
-#[derive(Drop)]
+#[derive(Clone, Copy)]
 pub enum Took {
     // Refused, and nothing changes.
     Bars(Refusal),
@@ -145,7 +147,7 @@ pub fn take(stage: Stage, offer: Offer, n: usize) -> Took
 }
 
 // What an event asks of its channel.
-#[derive(Drop)]
+#[derive(Clone, Copy)]
 pub enum Ask {
     // A Create request with a listener list outside its rule.
     NoList,
@@ -158,7 +160,7 @@ pub enum Ask {
 }
 
 // What becomes of the record.
-#[derive(Drop)]
+#[derive(Clone, Copy)]
 pub enum Change {
     Stays,
     Becomes(Record),
@@ -166,7 +168,7 @@ pub enum Change {
 }
 
 // What becomes of the channel's part of the store.
-#[derive(Drop)]
+#[derive(Clone, Copy)]
 pub enum Part {
     Keeps,
     // The block goes into it from here on.
@@ -179,7 +181,7 @@ pub enum Part {
 pub const OUR_VERSION: u16 = 2;
 
 // What is sent.
-#[derive(Drop)]
+#[derive(Clone, Copy)]
 pub enum Reply {
     NoReply,
     // A Capabilities response.
@@ -191,7 +193,7 @@ pub enum Reply {
 }
 
 // What an event does to its channel, what is answered, and what is sent.
-#[derive(Drop)]
+#[derive(Clone, Copy)]
 pub struct Turn {
     pub change: Change,
     pub part: Part,

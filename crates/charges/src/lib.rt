@@ -6,6 +6,8 @@
 //
 // The formula's fractions are put over one bottom: a class weighs the product of the other charges, and its share is its weight's part
 // of all four weights. Three charges multiplied, ten thousand times, stay below 2^62.
+#![tactic(auto)]
+
 ghost use Rattle.std.specs.Prelude.{◌≡◌, ◌*◌, ◌≤◌, ◌<◌};
 ghost use Rattle.charges.specs.Fractions.{over, floor};
 ghost use Rattle.charges.specs.Formula.{WHOLE, shares_of};

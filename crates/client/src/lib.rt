@@ -23,14 +23,14 @@ use reading::{Carried, Extent, Pdu};
 use table::{Table, Totals};
 
 // Whether Start did its work.
-#[derive(Drop)]
+#[derive(Clone, Copy)]
 pub enum Begun {
     Done,
     Refused(Refusal),
 }
 
 // What Start gives: the empty table, refused or not.
-#[derive(Drop)]
+#[derive(Clone, Copy)]
 pub struct Started {
     pub table: Table,
     pub begun: Begun,
@@ -39,7 +39,7 @@ pub struct Started {
 // What a call gives: the next table, the answer, how many bytes of the reply to send, and the place of the record of the
 // channel that the answer concerns, or sixteen where it concerns none or the channel has no record then. A message that is
 // handed up is the first bytes of the part there, which begins at 4,096 times the place.
-#[derive(Drop)]
+#[derive(Clone, Copy)]
 pub struct Received {
     pub table: Table,
     pub answer: Answer,
@@ -48,7 +48,7 @@ pub struct Received {
 }
 
 // What a call asks: of the channel with the number, if of any, what, and where in the PDU the block lies.
-#[derive(Drop)]
+#[derive(Clone, Copy)]
 pub struct Asked {
     pub number: u32,
     pub matter: Matter,

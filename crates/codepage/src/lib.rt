@@ -6,6 +6,8 @@
 //
 // Both go by one table, Windows-1252 as Unicode publishes it: `point_of` gives a byte's entry. `has_name` says whether a text can be
 // converted at all. `dvc_name_to_utf8` and `dvc_name_from_utf8` are the two conversions for hosts in C.
+#![tactic(auto)]
+
 mod windows_1252;
 
 ghost use Rattle.std.specs.Prelude.{◌≡◌, true, false, [], ◌∷◌, ◌+◌, ◌≤◌, ◌<◌, length, drop, get_or};

@@ -5,6 +5,8 @@
 //
 // It refuses in the paper's order: 1, the buffer; 11, the message's length; 14, an offset where no block starts. The bytes
 // behind the PDU stay, and a refusal leaves all. No call asks anything of the one before: the offset says it all.
+#![tactic(auto)]
+
 ghost use Rattle.std.specs.Prelude.{◌≡◌, ◌≤◌, length};
 ghost use Rattle.paper.specs.Sizes.{MESSAGE_MAX};
 ghost use Rattle.lists.specs.Bytes.{laid};
@@ -13,7 +15,7 @@ ghost use Rattle.cutting.specs.Cutting.{is_first, header_len, block_end, is_star
 use paper::{MESSAGE_MAX, PDU_MAX, Refusal, WHOLE_MAX};
 
 // What cutting answers.
-#[derive(Drop)]
+#[derive(Clone, Copy)]
 pub enum Piece {
     // The PDU's length, and the offset of the next block: the message's length after the last one.
     Pdu { len: usize, next: usize },

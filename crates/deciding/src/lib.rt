@@ -2,6 +2,8 @@
 // ready, its level, the record that was found for the matter's channel, and whether there is room for it.
 //
 // Who keeps the records finds before, and puts back after: `table` by value, or anything else.
+#![tactic(auto)]
+
 ghost use Rattle.std.specs.Prelude.{◌≡◌};
 ghost use Rattle.deciding.specs.Deciding.{level_for, refusing, readying, decided_of};
 
@@ -9,7 +11,7 @@ use channel::{Answer, Ask, Change, Concern, OUR_VERSION, Part, Record, Reply, Tu
 use paper::Refusal;
 
 // What is to be decided.
-#[derive(Drop)]
+#[derive(Clone, Copy)]
 pub enum Matter {
     // A PDU that reading refuses, and whether it carries its channel's number whole: then it is garbled.
     Unread { why: Refusal, whole: bool },
@@ -20,7 +22,7 @@ pub enum Matter {
 }
 
 // What a matter comes to: ready or not, the level, and what is done to its channel.
-#[derive(Drop)]
+#[derive(Clone, Copy)]
 pub struct Decided {
     pub ready: bool,
     pub level: u8,

@@ -27,7 +27,7 @@ pub const HEAD: usize = 6;
 pub const HEAD_MAX: usize = HEAD + 65535;
 
 // Why a PDU makes the answer a no, in the order in which they are judged.
-#[derive(Drop)]
+#[derive(Clone, Copy)]
 pub enum Reason {
     // It is refused in reading.
     Reading,
@@ -42,7 +42,7 @@ pub enum Reason {
 }
 
 // How a list stands after the PDUs that were judged.
-#[derive(Drop)]
+#[derive(Clone, Copy)]
 pub enum Course {
     // None has a fault and none handed up: the place of the next, the channel's stage, and whether the bytes that are held are
     // the message's first.
@@ -64,7 +64,7 @@ pub enum Course {
 }
 
 // What a list comes to.
-#[derive(Drop)]
+#[derive(Clone, Copy)]
 pub enum Judgement {
     Yes,
     // The first PDU with a fault.
@@ -76,14 +76,14 @@ pub enum Judgement {
 }
 
 // Where a run stands between two reads: the course, and how many bytes were left.
-#[derive(Drop)]
+#[derive(Clone, Copy)]
 pub struct Stand {
     pub course: Course,
     pub had: usize,
 }
 
 // What a walk through records gives: the course, and how many bytes of the input it took.
-#[derive(Drop)]
+#[derive(Clone, Copy)]
 struct Walked {
     course: Course,
     taken: usize,

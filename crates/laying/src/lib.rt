@@ -3,6 +3,8 @@
 // Each function lays the PDU that specs/Laying gives for its values, and answers the PDU's length. Bytes of the buffer
 // behind it stay. A buffer that is too short gets as much of it as it has room for. None refuses: what may be written,
 // and in what buffer, is judged by the callers.
+#![tactic(auto)]
+
 ghost use Rattle.std.specs.Prelude.{◌≡◌};
 ghost use Rattle.std.proofs.Math.ListN;
 ghost use Rattle.lists.specs.Bytes.{laid};

@@ -6,6 +6,8 @@
 // the connection's totals. Each lays its bytes at the front of a
 // buffer and answers how many there are; `field`, `channel`, `text`, `bytes_field` and `refused`, of which lines are made, lay theirs from a
 // place on, and `hex_byte` gives its two. Bytes of the buffer behind them stay. A buffer that is too short gets as much as it has room for.
+#![tactic(auto)]
+
 ghost use Rattle.std.specs.Prelude.{◌≡◌, ◌+◌, ◌*◌, ◌≤◌, ◌<◌, length, take, drop};
 ghost use Rattle.paper.specs.Sizes.{MESSAGE_MAX};
 ghost use Rattle.lists.specs.Bytes.{laid};
@@ -39,7 +41,7 @@ pub const REFUSED_MAX: usize = WORD_MAX + FIELD_MAX;
 pub const MESSAGE_LINE_MAX: usize = 2 * FIELD_MAX + 2 * MESSAGE_MAX + 1;
 
 // A field, at the end of its scratch.
-#[derive(Drop)]
+#[derive(Clone, Copy)]
 struct Digits {
     bytes: [u8; FIELD_MAX],
     start: usize,

@@ -23,28 +23,28 @@ use shore::{Given, Said, Shore};
 use table::Table;
 
 // What both hosts keep beside the stores.
-#[derive(Drop)]
+#[derive(Clone, Copy)]
 pub struct Ends {
     pub panel: Table,
     pub shore: Shore,
 }
 
 // What comes of calls: what both hosts keep, and how many bytes of text were laid.
-#[derive(Drop)]
+#[derive(Clone, Copy)]
 pub struct Crossed {
     pub ends: Ends,
     pub laid: usize,
 }
 
 // What comes of a record: whether it is none, too.
-#[derive(Drop)]
+#[derive(Clone, Copy)]
 pub struct Stepped {
     pub crossed: Crossed,
     pub bad: bool,
 }
 
 // What comes of one PDU of a message, and where its next block starts.
-#[derive(Drop)]
+#[derive(Clone, Copy)]
 struct Sent {
     crossed: Crossed,
     next: usize,
@@ -409,7 +409,7 @@ fn lead_of(bytes: &[u8]) -> u8
 }
 
 // A record that is none.
-fn no_record_law(ends: Ends, place: u64, out: &mut [u8]) -> Stepped
+fn no_record(ends: Ends, place: u64, out: &mut [u8]) -> Stepped
     ensures { (store : List ℕ) → (result.bad ≡ true) × Crosses (no_record place (with_store ends store)).goes STEP_MAX
         out.old result.crossed store out.new }
 {
@@ -437,7 +437,7 @@ pub fn step(
     let from = lists::lesser(LEAD, bytes.len());
     if lead == AT_SHORE {
         if !is_host(&bytes[from..]) {
-            return no_record_law(ends, place, out);
+            return no_record(ends, place, out);
         }
         let crossed = shore_hosts(ends, store, list, &bytes[from..], place, out);
         return Stepped {
@@ -474,5 +474,5 @@ pub fn step(
             bad: false,
         };
     }
-    no_record_law(ends, place, out)
+    no_record(ends, place, out)
 }

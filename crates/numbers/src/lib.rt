@@ -9,7 +9,7 @@ ghost use Rattle.numbers.specs.Numbers.{little, bytes_of, value_of, value_at, wi
 ghost use Rattle.numbers.specs.Status.{signed_of, unsigned_of, status_of, status_bytes};
 
 // A number that was read, and whether a narrower width would do.
-#[derive(Drop)]
+#[derive(Clone, Copy)]
 pub struct Measured {
     pub value: u32,
     pub wide: bool,

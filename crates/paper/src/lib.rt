@@ -59,7 +59,7 @@ pub const UNLISTED: i32 = -2147023728;
 pub const FULL: i32 = -2147024882;
 
 // Why an entry refuses: the paper's table, with its number and its sentence beside each name.
-#[derive(Drop)]
+#[derive(Clone, Copy)]
 pub enum Refusal {
     // 1: store, reply or PDU buffer is not of its size, or the table passed in is unsound.
     BadCall,

@@ -25,14 +25,14 @@ use paper::{
 };
 
 // Where in the PDU a name or data stands. It may be empty.
-#[derive(Drop)]
+#[derive(Clone, Copy)]
 pub struct Extent {
     pub at: usize,
     pub len: usize,
 }
 
 // The priority charges. The channels of class k use charge k.
-#[derive(Drop)]
+#[derive(Clone, Copy)]
 pub struct Charges {
     pub class0: u16,
     pub class1: u16,
@@ -41,7 +41,7 @@ pub struct Charges {
 }
 
 // What reading answers.
-#[derive(Drop)]
+#[derive(Clone, Copy)]
 pub enum Pdu {
     // From the server. The name is without its zero byte; class is Pri, whatever the level.
     CreateRequest {
@@ -79,14 +79,14 @@ pub enum Pdu {
 }
 
 // The channel number that stands whole in a block of data, if one does.
-#[derive(Drop)]
+#[derive(Clone, Copy)]
 pub enum Carried {
     NoNumber,
     Number(u32),
 }
 
 // What both readings share: plain reading's answer, and whether strict reading refuses what that accepts.
-#[derive(Drop)]
+#[derive(Clone, Copy)]
 struct Found {
     answer: Pdu,
     loose: bool,

@@ -51,7 +51,7 @@ pub const MESSAGE_HEAD: usize = LEAD + 4 + 2;
 pub const RECORD_MAX: usize = MESSAGE_HEAD + 65535 + 1;
 
 // What a walk waits for.
-#[derive(Drop)]
+#[derive(Clone, Copy)]
 pub enum Due {
     // More bytes, behind those that are left.
     Read,

@@ -21,7 +21,7 @@ use reading::Pdu;
 use table::Table;
 
 // The rules, in the order on receive, each with its refusal's number and its sentence.
-#[derive(Drop)]
+#[derive(Clone, Copy)]
 pub enum Rule {
     // 2: the PDU is empty.
     Empty,
@@ -62,7 +62,7 @@ pub enum Rule {
 }
 
 // The first rule that holds, or that none does.
-#[derive(Drop)]
+#[derive(Clone, Copy)]
 pub enum Broken {
     NoRule,
     Broke(Rule),

@@ -40,7 +40,7 @@ pub const CLIENT: u32 = 67;
 pub const SHORE: u32 = 83;
 
 // What is read of a state beside its records.
-#[derive(Drop)]
+#[derive(Clone, Copy)]
 pub struct Head {
     pub ready: bool,
     pub level: u8,

@@ -14,7 +14,7 @@ ghost use Rattle.saying.specs.Saying.{end_field, dropped_line_of, bad_line_of};
 use shore::Said;
 
 // An end of the link.
-#[derive(Drop)]
+#[derive(Clone, Copy)]
 pub enum End {
     Shore,
     Panel,

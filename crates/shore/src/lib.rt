@@ -31,7 +31,7 @@ use table::Table;
 use writing::Written;
 
 // What the host keeps beside the store.
-#[derive(Drop)]
+#[derive(Clone, Copy)]
 pub struct Shore {
     pub table: Table,
     // The version that was asked for, or 0 before the request.
@@ -39,14 +39,14 @@ pub struct Shore {
 }
 
 // Whether Start did its work, and what the host keeps from there on, refused or not.
-#[derive(Drop)]
+#[derive(Clone, Copy)]
 pub struct Started {
     pub shore: Shore,
     pub begun: Begun,
 }
 
 // The answer to a call.
-#[derive(Drop)]
+#[derive(Clone, Copy)]
 pub enum Said {
     // The request is written, of this version.
     Asked { version: u16 },
@@ -69,7 +69,7 @@ pub enum Said {
 // What `receive` and `local_close` give: what the host keeps, the answer, how many bytes of the reply to send, and the place
 // of the record of the channel that the answer concerns, or sixteen where it concerns none or the channel has no record then.
 // A message that is handed up is the first bytes of the part there, which begins at 4,096 times the place.
-#[derive(Drop)]
+#[derive(Clone, Copy)]
 pub struct Given {
     pub shore: Shore,
     pub said: Said,
@@ -78,7 +78,7 @@ pub struct Given {
 }
 
 // What `request` and `open` give: what the host keeps, the answer, and the length of the PDU that is written.
-#[derive(Drop)]
+#[derive(Clone, Copy)]
 pub struct Sending {
     pub shore: Shore,
     pub said: Said,
@@ -86,7 +86,7 @@ pub struct Sending {
 }
 
 // What is to be decided.
-#[derive(Drop)]
+#[derive(Clone, Copy)]
 pub enum Matter {
     // A PDU that reading refuses, and whether it carries its channel's number whole: then it is garbled.
     Unread { why: Refusal, whole: bool },
@@ -101,7 +101,7 @@ pub enum Matter {
 }
 
 // What a PDU asks: of the number, if of any, what, and where in the PDU the block lies.
-#[derive(Drop)]
+#[derive(Clone, Copy)]
 pub struct Heard {
     pub number: u32,
     pub matter: Matter,
@@ -109,7 +109,7 @@ pub struct Heard {
 }
 
 // What a matter comes to.
-#[derive(Drop)]
+#[derive(Clone, Copy)]
 pub struct Decided {
     pub ready: bool,
     pub level: u8,

@@ -1,6 +1,8 @@
 // The table: sixteen records by value, with two totals over them, whether the connection is ready and the level in use.
 //
 // A table goes in by value and comes back. Every function takes any table, unsound ones too, and any number and place.
+#![tactic(auto)]
+
 ghost use Rattle.std.specs.Prelude.{◌≡◌, true, false, cond, ◌&&◌, ◌-◌, eqb, drop};
 ghost use Rattle.channel.specs.Channel.{blank};
 ghost use Rattle.table.specs.Table.{empty_table, holds, with_record, free_place, found_in, open_in, home_in};
@@ -12,7 +14,7 @@ use channel::{Change, Record, Stage};
 use paper::{MESSAGE_MAX, PARTS};
 
 // What a host's status lamp shows. In a sound table it is what a recount of the records comes to.
-#[derive(Drop)]
+#[derive(Clone, Copy)]
 pub struct Totals {
     // The open channels.
     pub channels: u32,
@@ -20,7 +22,7 @@ pub struct Totals {
     pub awaited: u32,
 }
 
-#[derive(Drop)]
+#[derive(Clone, Copy)]
 pub struct Table {
     pub totals: Totals,
     pub ready: bool,
@@ -31,7 +33,7 @@ pub struct Table {
 
 // Where a number stands: the place of the record that holds it, and the record. Where none holds it, the place is sixteen
 // and the record a free one.
-#[derive(Drop)]
+#[derive(Clone, Copy)]
 pub struct Found {
     pub place: usize,
     pub row: Record,
@@ -75,7 +77,7 @@ fn holds(record: Record, number: u32) -> bool
 }
 
 // Whether the record is open: it holds a number that isn't awaited.
-fn is_open_law(record: Record) -> bool
+fn is_open(record: Record) -> bool
     ensures { result ≡ is_open «record» }
 {
     record.taken & !record.awaited
@@ -129,7 +131,7 @@ pub fn find_open(table: Table) -> Found
             break Found { place: k, row };
         }
         let row = table.records[k];
-        if is_open_law(row) {
+        if is_open(row) {
             break Found { place: k, row };
         }
         k += 1;
@@ -195,7 +197,7 @@ fn next_record(change: Change) -> Record
 fn opens(record: Record) -> u32
     ensures { result ≡ opens «record» }
 {
-    if is_open_law(record) {
+    if is_open(record) {
         return 1;
     }
     0
@@ -218,7 +220,7 @@ fn left(counts: bool, wanted: u16, held: u16) -> u32
 fn awaits(record: Record) -> u32
     ensures { result ≡ awaits «record» }
 {
-    let counts = is_open_law(record);
+    let counts = is_open(record);
     let stage = record.stage;
     match stage {
         Stage::Idle => 0,
@@ -411,7 +413,7 @@ fn counts(record: Record, marked: bool) -> bool
     ensures { result ≡ cond marked (is_open «record») «record».taken }
 {
     if marked {
-        return is_open_law(record);
+        return is_open(record);
     }
     record.taken
 }

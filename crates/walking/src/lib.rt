@@ -24,7 +24,7 @@ use shore::Shore;
 use table::Table;
 
 // What is told of the client's steps.
-#[derive(Drop)]
+#[derive(Clone, Copy)]
 pub enum Told {
     // A line for each PDU.
     Lines,
@@ -37,7 +37,7 @@ pub enum Told {
 }
 
 // What a walk is for.
-#[derive(Drop)]
+#[derive(Clone, Copy)]
 pub enum Job {
     // The client's step for each record.
     Client(Told),
@@ -51,7 +51,7 @@ pub enum Job {
 
 // What a walk keeps from record to record, beside the store: what the hosts of both ends keep, whether the run has ended at a
 // record that is none, and the place of the next record.
-#[derive(Drop)]
+#[derive(Clone, Copy)]
 pub struct Kept {
     pub table: Table,
     pub shore: Shore,
@@ -60,7 +60,7 @@ pub struct Kept {
 }
 
 // Where a walk stands between two turns: what it keeps, how many bytes were left, and what it waits for.
-#[derive(Drop)]
+#[derive(Clone, Copy)]
 pub struct Stand {
     pub kept: Kept,
     pub had: usize,
@@ -68,14 +68,14 @@ pub struct Stand {
 }
 
 // What a turn gives: where the walk stands, and how many bytes of text it laid.
-#[derive(Drop)]
+#[derive(Clone, Copy)]
 pub struct Turned {
     pub stand: Stand,
     pub laid: usize,
 }
 
 // What one record gives: what is kept, and its text's length.
-#[derive(Drop)]
+#[derive(Clone, Copy)]
 struct Stepped {
     kept: Kept,
     laid: usize,
@@ -83,7 +83,7 @@ struct Stepped {
 
 // What a walk through records gives: what is kept, how many bytes of the input it took, and how many bytes of text it
 // laid.
-#[derive(Drop)]
+#[derive(Clone, Copy)]
 struct Walked {
     kept: Kept,
     taken: usize,

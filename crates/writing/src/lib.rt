@@ -2,6 +2,8 @@
 //
 // A writer takes a buffer of at least 1,600 bytes and answers the PDU's length, or refuses, in the paper's order:
 // 1, the buffer; 5, the values; 11, the PDU's length. The bytes behind the written ones stay, and a refusal leaves all.
+#![tactic(auto)]
+
 ghost use Rattle.std.specs.Prelude.{◌≡◌, false};
 ghost use Rattle.std.proofs.Math.ListN;
 ghost use Rattle.reading.specs.Reading.{bad_version};
@@ -14,7 +16,7 @@ use paper::{PDU_MAX, Refusal};
 use reading::Charges;
 
 // What writing answers.
-#[derive(Drop)]
+#[derive(Clone, Copy)]
 pub enum Written {
     // The PDU's length.
     Length(usize),

@@ -5,8 +5,8 @@ use Rattle.lines.specs.Lines.{MESSAGE_LINE_MAX}
 use Rattle.linking.specs.Linking.{CALL_MAX, STEP_MAX, no_record}
 use borrow.Author.Rules.{rules}
 use native.Mathlib.Omega.{arith}
-use Rattle.linking.proofs.no_record_law.Statement.{statement}
-use Rattle.linking.proofs.no_record_law.Tie as tie
+use Rattle.linking.proofs.no_record.Statement.{statement}
+use Rattle.linking.proofs.no_record.Tie as tie
 
 bad_line_requires : tie.Need-bad-line-requires
 bad_line_requires c κs = search rules
