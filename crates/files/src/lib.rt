@@ -15,8 +15,8 @@ use std::io::{Cursor, Read, Write};
 use std::rt::{Env, Files};
 use std::{fmt, io, str};
 
-// The bytes of a buffer for a file's name: the system opens none that is as long.
-pub const NAME: usize = 4096;
+// The bytes of a buffer for an argument: the system opens no file whose name is as long.
+pub const ARGUMENT: usize = 4096;
 
 // The system's numbers for an argument that is missing, and for a name that is too long.
 const EINVAL: i32 = 22;
