@@ -4,6 +4,8 @@
 // the host to `local_close`, with the table of the call before. A refusal writes nothing to store and reply and changes no
 // channel, but that refusals 10, 11 and 12 turn the one channel's stage to spoiled, and so do 2 to 5 for a block of data that
 // carries its channel's number whole. Every entry takes anything.
+#![tactic(auto)]
+
 ghost use Rattle.std.specs.Prelude.{◌≡◌, true, length};
 ghost use Rattle.paper.specs.Sizes.{PARTS, STORE};
 ghost use Rattle.lists.specs.Bytes.{laid};

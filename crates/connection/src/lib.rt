@@ -5,6 +5,8 @@
 // channel sees of the state and how a result is put back; proofs/Frame and Acts, that this moves that channel and no other,
 // leaves a sound table sound and writes no byte outside the channel's part. Nothing here knows which end it serves, or what
 // is replied.
+#![tactic(auto)]
+
 ghost use Rattle.std.specs.Prelude.{◌≡◌};
 ghost use Rattle.connection.specs.States.{kept, stands, place_after};
 

@@ -76,7 +76,7 @@ unfolding meets
 met chain zero h k = absurd (omega arith)
 met {number} {total} {at} here (suc more) h k = simp (eq-eqb at at refl)
 met {number} {total} {at} {offset} (onward l chain) (suc more) h k =
-    let r = met chain more (omega arith)
+    let r = met {at = block_end number total at} chain more (omega arith)
     (omega (arith, end_after_law number total at (omega (arith, end_from_law number total at)))) in
     simp (lt-ltb _ _ l, r) (or-true (eqb at offset))
 

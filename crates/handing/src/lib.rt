@@ -3,6 +3,8 @@
 // `message` lays the line of a message that an answer hands up: its bytes are the first of the part at the place beside the
 // answer. `of_answer` and `of_said` lay it where the client's or the shore's answer is a message, and nothing for any other.
 // Each takes anything, and answers how many bytes it laid.
+#![tactic(auto)]
+
 ghost use Rattle.std.specs.Prelude.{◌≡◌, ◌≤◌, length};
 ghost use Rattle.lists.specs.Bytes.{laid};
 ghost use Rattle.lines.specs.Lines.{MESSAGE_LINE_MAX, message_line_of};

@@ -3,6 +3,8 @@
 // `hosted` takes a record: what the shore's host does, or a PDU from the client. It calls the shore's end, and what is sent
 // goes to the front of the buffer. `announces` says what a record announces, by which `hosted` goes. Both take anything; bytes
 // that a record doesn't have are as 0.
+#![tactic(auto)]
+
 ghost use Rattle.std.specs.Prelude.{◌≡◌};
 ghost use Rattle.records.specs.Records.{announced};
 ghost use Rattle.shore.specs.Shore.{requested, locally_opened};

@@ -3,6 +3,8 @@
 // `start` makes both ends. `step` takes a record: what a host does, or that the link drops. It calls the end that the record is for, carries what that
 // sends across until nothing is on its way, and lays what each end answered. The panel's store is the first half of the store
 // that is lent, and the shore's the rest. It takes anything; a record that is none is told as bad and does nothing.
+#![tactic(auto)]
+
 ghost use Rattle.std.specs.Prelude.{◌≡◌, true, List, ℕ, ◌+◌, ◌*◌, ◌≤◌, length};
 ghost use Rattle.lists.specs.Bytes.{laid};
 ghost use Rattle.records.specs.Desk.{leading, message_length};

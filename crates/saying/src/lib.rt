@@ -3,6 +3,8 @@
 // `desk_header` and `desk_line` lay the lines of the shore's walker, `link_header`, `end_word`, `dropped_line` and `bad_line`
 // what both ends in one process have beside them. Each lays its bytes at the front of a buffer and answers how many there are. Bytes of the
 // buffer behind them stay. A buffer that is too short gets as much as it has room for.
+#![tactic(auto)]
+
 ghost use Rattle.std.specs.Prelude.{◌≡◌, ◌+◌, ◌*◌, ◌≤◌, length};
 ghost use Rattle.lists.specs.Bytes.{laid};
 ghost use Rattle.lines.specs.Decimal.{FIELD_MAX};

@@ -6,6 +6,8 @@
 // through the rules that both ends have in common (`channel`, `deciding`). A refusal writes nothing and changes no channel,
 // but that refusals 10, 11 and 12 turn the one channel's stage to spoiled, and so do 2 to 5 for a block of data that carries
 // its channel's number whole. Every entry takes anything.
+#![tactic(auto)]
+
 ghost use Rattle.std.specs.Prelude.{◌≡◌, true, false, cond, length};
 ghost use Rattle.paper.specs.Sizes.{PARTS, STORE};
 ghost use Rattle.lists.specs.Bytes.{laid};

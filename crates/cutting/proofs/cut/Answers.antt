@@ -33,8 +33,7 @@ lay-requires c = let a = c.args in
 
 pub returns : goal.returns
 unfolding PDU_MAX MESSAGE_MAX
-returns c = let met = sym c.is_start.ensures ∙ not-false _
-    c.if-not-is_start.false in
+returns c = let met = sym c.is_start.ensures ∙ c.if-not-is_start.false in
     let both = lays _ _ _ _ c.if-out-lt-PDU_MAX.false
     c.if-message-gt-MESSAGE_MAX.false met c.lay.ensures.value
     c.lay.ensures.out_after in record { value = both.0; out_after = both.1 }

@@ -37,7 +37,7 @@ returns-then-is_first c = let part : take (c.block_end-next.result - c.args.at)
     c.args.at = part_block _ _ _ _ c.block_end-next.ensures in
     let lay = rw (part) at c.data_first-len.ensures in
     rw (cut_first _ _ _ (sym c.is_first.ensures ∙ c.if-is_first.true))
-    (record { value = simp (lay.0, c.block_end-next.ensures); out_after = lay.1 })
+    (record { value = simp (lay.value, c.block_end-next.ensures); out_after = lay.out_after })
 
 pub returns : goal.returns
 returns c = let part : take (c.block_end-next.result - c.args.at)
@@ -46,4 +46,4 @@ returns c = let part : take (c.block_end-next.result - c.args.at)
     c.args.at = part_block _ _ _ _ c.block_end-next.ensures in
     let lay = rw (part) at c.data-len.ensures in
     rw (cut_data _ _ _ (sym c.is_first.ensures ∙ c.if-is_first.false))
-    (record { value = simp (lay.0, c.block_end-next.ensures); out_after = lay.1 })
+    (record { value = simp (lay.value, c.block_end-next.ensures); out_after = lay.out_after })

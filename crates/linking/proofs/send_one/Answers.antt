@@ -1,0 +1,35 @@
+-- `linking::send_one` meets its contract: the cutter's answer decides, as in the definition.
+use mathlib.Core.Path.{◌≡◌, refl, sym, ◌∙◌}
+use Prim.Native.Nat.{min}
+use lib.ListN.{length}
+use Rattle.paper.specs.Sizes.{PDU_MAX}
+use Rattle.lists.specs.Bytes.{zeros}
+use Rattle.linking.specs.Linking.{sends_piece, sends_one}
+use Rattle.linking.proofs.Crossing.{sent_lent}
+use native.Mathlib.Omega.{arith}
+use Rattle.linking.proofs.send_one.Goals as goal
+
+pub returns-in-Pdu : goal.returns-in-Pdu
+unfolding sends_one sends_piece zeros PDU_MAX
+returns-in-Pdu c = let got = c.cut.ensures in
+    let buffer = c.cut.new.out in
+    let len = c.lesser-n.ensures in
+    let n : c.lesser-n.result ≡ min c.in-Pdu.len (length buffer) = omega (arith, len, c.cut.auto.out) in
+    let piece = sym got.value ∙ c.in-Pdu.is in
+    let did = rw (sent_lent c.in-Pdu.len c.lesser-n.result buffer n, got.out_after) at c.across-crossed.ensures in
+    rw piece (refl, did)
+
+pub returns-in-Refused : goal.returns-in-Refused
+unfolding sends_one sends_piece zeros PDU_MAX
+returns-in-Refused c = let piece = sym c.cut.ensures.value ∙ c.in-Refused.is in
+    let did = c.unsent-laid.ensures in
+    rw piece (
+      refl,
+      record {
+        ends = refl;
+        length_laid = did.value.0;
+        fits = omega (arith, did.value.1);
+        stored = refl;
+        lines = did.out_after;
+      },
+    )
