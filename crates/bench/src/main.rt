@@ -4,15 +4,17 @@
 // 2 MiB. Each round is a host's: it begins with Start, hands over every PDU, with the one listener PUMP, and then closes what
 // is open, noting each channel's count of messages. Then it prints `calls N`, for each answer word how many calls got it,
 // and `counted N`, the sum of the counts. bench/plain.c prints the same from plain C.
+#![tactic(auto)]
+
 ghost use Rattle.std.specs.Prelude.{◌≡◌, ◌<◌, ◌≤◌, length};
 ghost use Rattle.bench.specs.Hosts.{asked_next};
 ghost use Rattle.bench.specs.Tallies.{plus, tallied, noted, no_calls, sum_of};
 
 use channel::Answer;
 use client::Asked;
-use files::Filled;
-use libc::{STDERR_FILENO, STDOUT_FILENO};
+use files::{ARGUMENT, Filled};
 use paper::PARTS;
+use std::rt::{Env, Files};
 
 // The most bytes that a file has.
 const FILE_MAX: usize = 2097152;
@@ -127,12 +129,12 @@ fn one_round(file: &[u8], store: &mut [u8], reply: &mut [u8], before: Tally) -> 
 }
 
 // So many rounds over the file.
-fn run(rounds: u64, file: &[u8]) -> Tally
+fn run(rt: &impl Env, rounds: u64, file: &[u8]) -> Tally
     ensures { rounds ≡ 0 → result ≡ no_calls }
 {
     let mut store = [0u8; paper::STORE];
     // The store begins used, and is known outside the program: what is written to it can't be left out as never read.
-    os::arg(3, &mut store);
+    files::argument(rt, 3, &mut store);
     let mut reply = [0u8; paper::REPLY_MIN];
     let mut tally = Tally {
         ready: 0,
@@ -163,32 +165,29 @@ fn sum(t: Tally) -> u64
 }
 
 // Writes a word, a space and a number as a line. Answers how many lines were written.
-fn print_line(word: &[u8], number: u64) -> usize
+fn print_line(rt: &impl Print, word: &str, number: u64) -> usize
     ensures { result ≤ 1 }
 {
-    io::write_all(STDOUT_FILENO, word);
-    io::write_all(STDOUT_FILENO, b" ");
-    io::print_decimal(STDOUT_FILENO, number);
-    if io::write_all(STDOUT_FILENO, b"\n") {
-        return 1;
+    match println!(rt; "{word} {number}") {
+        Ok(()) => 1,
+        Err(_) => 0,
     }
-    0
 }
 
 // Writes the tally. Answers how many lines were written.
-fn print_tally(t: Tally) -> usize
+fn print_tally(rt: &impl Print, t: Tally) -> usize
     ensures { result ≤ 10 }
 {
-    print_line(b"calls", sum(t))
-        + print_line(b"ready", t.ready)
-        + print_line(b"opened", t.opened)
-        + print_line(b"declined", t.declined)
-        + print_line(b"held", t.held)
-        + print_line(b"message", t.message)
-        + print_line(b"closed", t.closed)
-        + print_line(b"ignored", t.ignored)
-        + print_line(b"refused", t.refused)
-        + print_line(b"counted", t.counted)
+    print_line(rt, "calls", sum(t))
+        + print_line(rt, "ready", t.ready)
+        + print_line(rt, "opened", t.opened)
+        + print_line(rt, "declined", t.declined)
+        + print_line(rt, "held", t.held)
+        + print_line(rt, "message", t.message)
+        + print_line(rt, "closed", t.closed)
+        + print_line(rt, "ignored", t.ignored)
+        + print_line(rt, "refused", t.refused)
+        + print_line(rt, "counted", t.counted)
 }
 
 // The value of a decimal digit, or ten for any other byte.
@@ -229,24 +228,26 @@ fn count_of(text: &[u8]) -> u64
 
 // Reads the file into the room lent, and runs it. Answers how many lines were written. A file that can't be opened or
 // read, or is too long, is said on standard error.
-fn run_file(rounds: u64, path: &[u8], room: &mut [u8]) -> usize
+fn run_file(
+    rt: &(impl Env + Files + Print + Eprint),
+    rounds: u64,
+    path: &[u8],
+    room: &mut [u8],
+) -> usize
     ensures { result ≤ 10 }
 {
-    let fd = os::open_read(path);
-    if fd < 0 {
-        os::fail(path);
+    let Some(mut file) = files::open(rt, path) else {
         return 0;
-    }
-    let Filled::To(n) = files::load(fd, room) else {
-        os::fail(path);
+    };
+    let Filled::To(n) = files::load(rt, &mut file, path, room) else {
         return 0;
     };
     if FILE_MAX < n {
-        io::write_all(STDERR_FILENO, b"bench: the file is over 2 MiB\n");
+        files::complain(rt, b"bench: the file is over 2 MiB\n");
         return 0;
     }
     let end = lists::lesser(n, room.len());
-    print_tally(run(rounds, &room[..end]))
+    print_tally(rt, run(rt, rounds, &room[..end]))
 }
 
 // Room for a file, with one byte more than a file may have, so that a longer one shows.
@@ -257,24 +258,27 @@ fn room() -> [u8; FILE_MAX + 1]
 }
 
 // Lends room for the file.
-fn bench(rounds: u64, path: &[u8]) -> usize
+fn bench(rt: &(impl Env + Files + Print + Eprint), rounds: u64, path: &[u8]) -> usize
     ensures { result ≤ 10 }
 {
     let mut room = room();
-    run_file(rounds, path, &mut room)
+    run_file(rt, rounds, path, &mut room)
 }
 
-fn main() {
-    let mut word = io::buffer();
-    let w = os::arg(1, &mut word);
-    let mut count = io::buffer();
-    let c = os::arg(2, &mut count);
-    let mut path = io::buffer();
-    let p = os::arg(3, &mut path);
+fn main(rt: HostRuntime) {
+    let mut word = [0u8; ARGUMENT];
+    let w = files::argument(&rt, 1, &mut word);
+    let mut count = [0u8; ARGUMENT];
+    let c = files::argument(&rt, 2, &mut count);
+    let mut path = [0u8; ARGUMENT];
+    let p = files::argument(&rt, 3, &mut path);
     let rounds = count_of(&count[..c]);
-    if os::arg_count() != 4 || ROUNDS_END <= rounds || !listeners::listed(b"bench\0", &word[..w]) {
-        io::write_all(STDERR_FILENO, b"usage: bench bench ROUNDS FILE\n");
+    if files::arguments(&rt) != 3
+        || ROUNDS_END <= rounds
+        || !listeners::listed(b"bench\0", &word[..w])
+    {
+        files::complain(&rt, b"usage: bench bench ROUNDS FILE\n");
         return;
     }
-    bench(rounds, &path[..p]);
+    bench(&rt, rounds, &path[..p]);
 }

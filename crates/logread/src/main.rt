@@ -4,16 +4,19 @@
 // `close` and the number of a local close. A file that is not whole blocks or has more than 65,536 has `refused 22` alone. LOG is a regular
 // file: one that can't be opened or read, that has no size or ends before it, is said on standard error, and no more is printed. What is
 // printed is the work of `logging`.
+#![tactic(auto)]
+
 ghost use Rattle.std.specs.Prelude.{◌+◌, ◌≤◌, ◌≡◌, length};
 ghost use Rattle.blocks.specs.Block.{BLOCK};
 ghost use Rattle.linklog.specs.Reading.{BLOCKS_MAX};
 ghost use Rattle.logging.specs.Lines.{SAID_MAX};
 
 use blocks::BLOCK;
-use files::Filled;
-use libc::{SEEK_END, SEEK_SET, STDERR_FILENO};
+use files::{ARGUMENT, Filled};
 use linklog::{ROOM, Reader};
 use logging::{Judged, SAID_MAX};
+use std::io::{Read, Seek, SeekFrom};
+use std::rt::Files;
 
 // The bytes of a piece: 64 blocks.
 const PIECE: usize = 64 * BLOCK;
@@ -27,6 +30,7 @@ struct Gone {
 
 // Prints the lines of a piece's blocks, the first of which has this number.
 fn tell(
+    rt: &(impl Print + Eprint),
     reader: Reader,
     blocks: u32,
     first: u32,
@@ -45,14 +49,14 @@ fn tell(
         let told = logging::tell(next, blocks, number, &piece[at..end], room, out);
         if told.why != 0 {
             let said = lines::refused(out, 0, told.why);
-            io::write_all(STDERR_FILENO, &out[..said]);
+            files::complain(rt, &out[..said]);
             return Gone {
                 reader: next,
                 on: false,
             };
         }
         let laid = told.laid;
-        if !files::write(&out[..laid]) {
+        if !files::write(rt, &out[..laid]) {
             return Gone {
                 reader: next,
                 on: false,
@@ -69,7 +73,15 @@ fn tell(
 }
 
 // Prints the lines of so many blocks, piece by piece.
-fn read(fd: i32, name: &[u8], blocks: u32, buffer: &mut [u8], room: &mut [u8], out: &mut [u8])
+fn read<R: Read>(
+    rt: &(impl Print + Eprint),
+    file: &mut R,
+    name: &[u8],
+    blocks: u32,
+    buffer: &mut [u8],
+    room: &mut [u8],
+    out: &mut [u8],
+)
     requires { (blocks ≤ BLOCKS_MAX) × ((BLOCK ≤ length buffer.old) × (SAID_MAX ≤ length out.old)) }
     ensures { name.now ≡ name.now }
 {
@@ -78,16 +90,15 @@ fn read(fd: i32, name: &[u8], blocks: u32, buffer: &mut [u8], room: &mut [u8], o
     while number < blocks {
         let count = lists::lesser((blocks - number) as usize, buffer.len() / BLOCK);
         let size = count * BLOCK;
-        let Filled::To(got) = files::load(fd, &mut buffer[..size]) else {
-            os::fail(name);
+        let Filled::To(got) = files::load(rt, file, name, &mut buffer[..size]) else {
             return;
         };
         if got < size {
-            io::write_all(STDERR_FILENO, name);
-            io::write_all(STDERR_FILENO, b": it ends before its size\n");
+            files::complain(rt, name);
+            files::complain(rt, b": it ends before its size\n");
             return;
         }
-        let gone = tell(reader, blocks, number, &buffer[..size], room, out);
+        let gone = tell(rt, reader, blocks, number, &buffer[..size], room, out);
         if !gone.on {
             return;
         }
@@ -97,7 +108,7 @@ fn read(fd: i32, name: &[u8], blocks: u32, buffer: &mut [u8], room: &mut [u8], o
 }
 
 // Prints the lines of a file of such a size.
-fn report(fd: i32, name: &[u8], size: u64)
+fn report<R: Read>(rt: &(impl Print + Eprint), file: &mut R, name: &[u8], size: u64)
     ensures { name.now ≡ name.now }
 {
     let mut out = [0u8; SAID_MAX];
@@ -105,69 +116,60 @@ fn report(fd: i32, name: &[u8], size: u64)
         Judged::Blocks(blocks) => {
             let mut buffer = [0u8; PIECE];
             let mut room = [0u8; ROOM];
-            read(fd, name, blocks, &mut buffer, &mut room, &mut out);
+            read(rt, file, name, blocks, &mut buffer, &mut room, &mut out);
         }
         Judged::NoLog(why) => {
             let said = lines::refused(&mut out, 0, paper::refusal_number(why));
-            files::write(&out[..said]);
+            files::write(rt, &out[..said]);
         }
     }
 }
 
 // Asks for the file's size, once a read has told that it can be read, and reports.
-fn measure(fd: i32, name: &[u8])
+fn measure<R: Read + Seek>(rt: &(impl Print + Eprint), file: &mut R, name: &[u8])
     ensures { name.now ≡ name.now }
 {
     let mut one = [0u8; 1];
-    let Filled::To(got) = files::fill(fd, &mut one, 0) else {
-        os::fail(name);
+    let Filled::To(got) = files::fill(rt, file, name, &mut one, 0) else {
         return;
     };
-    let size = libc::lseek(fd, 0, SEEK_END);
-    if size < 0 {
-        os::fail(name);
-        return;
-    }
-    if libc::lseek(fd, 0, SEEK_SET) < 0 {
-        os::fail(name);
+    let size = match file.seek(SeekFrom::End(0)) {
+        Ok(size) => size,
+        Err(why) => {
+            files::fail(rt, name, why);
+            return;
+        }
+    };
+    if let Err(why) = file.seek(SeekFrom::Start(0)) {
+        files::fail(rt, name, why);
         return;
     }
     if size == 0 {
         if 0 < got {
-            io::write_all(STDERR_FILENO, name);
-            io::write_all(STDERR_FILENO, b": it has no size\n");
+            files::complain(rt, name);
+            files::complain(rt, b": it has no size\n");
             return;
         }
     }
-    report(fd, name, size as u64);
+    report(rt, file, name, size);
 }
 
 // Opens the file, and reports.
-fn run(name: &[u8])
+fn run(rt: &(impl Files + Print + Eprint), name: &[u8])
     ensures { name.now ≡ name.now }
 {
-    let fd = os::open_read(name);
-    if fd < 0 {
-        os::fail(name);
-        return;
+    if let Some(mut file) = files::open(rt, name) {
+        measure(rt, &mut file, name);
     }
-    measure(fd, name);
-    libc::close(fd);
 }
 
-fn main() {
-    if os::arg_count() != 2 {
-        io::write_all(
-            STDERR_FILENO,
-            b"logread: call it as `logread LOG`, a link log\n",
-        );
+fn main(rt: HostRuntime) {
+    if files::arguments(&rt) != 1 {
+        files::complain(&rt, b"logread: call it as `logread LOG`, a link log\n");
         return;
     }
-    let mut name = io::buffer();
-    let n = os::arg(1, &mut name);
-    if os::errno() != 0 {
-        os::fail(b"logread: the file's name");
-        return;
+    let mut name = [0u8; ARGUMENT];
+    if let Some(n) = files::file_name(&rt, 1, b"logread: the file's name", &mut name) {
+        run(&rt, &name[..n]);
     }
-    run(&name[..n]);
 }

@@ -5,14 +5,16 @@
 // at the end. Where a record has no room in the log, the log up to there goes out and `refused 21` is said on standard error. A last record
 // that is cut short is not logged, and said there; so is a read that fails, and then nothing more goes out. What is written is the work of
 // `logging`.
+#![tactic(auto)]
+
 ghost use Rattle.std.specs.Prelude.{◌+◌, ◌*◌, ◌≤◌, ◌<◌, ◌≡◌, length};
 ghost use Rattle.blocks.specs.Block.{BLOCK, PAYLOAD};
 
 use blocks::{BLOCK, PAYLOAD};
 use files::Filled;
-use libc::{STDERR_FILENO, STDIN_FILENO};
 use linklog::{BLOCKS_MAX, ROOM};
 use logging::{Course, INPUT_MAX};
+use std::io::Read;
 
 // The bytes of the output: for an input of the longest record, all blocks that become full, of which one was begun before.
 const OUTPUT: usize = BLOCK * (INPUT_MAX + PAYLOAD) / PAYLOAD;
@@ -21,62 +23,67 @@ const OUTPUT: usize = BLOCK * (INPUT_MAX + PAYLOAD) / PAYLOAD;
 const READS: u64 = (BLOCKS_MAX as u64 * PAYLOAD as u64 + 1) * INPUT_MAX as u64;
 
 // Writes the last block, where it is partly filled, and says what is to be said.
-fn finish(course: Course, had: usize, room: &[u8], out: &mut [u8])
+fn finish(rt: &(impl Print + Eprint), course: Course, had: usize, room: &[u8], out: &mut [u8])
     requires { BLOCK ≤ length out.old }
     ensures { room.now ≡ room.now }
 {
     let log = course.log;
     let last = logging::finish(log, room, out);
-    if !files::write(&out[..last]) {
+    if !files::write(rt, &out[..last]) {
         return;
     }
     if logging::is_over(course) {
         let said = lines::refused(out, 0, course.why);
-        io::write_all(STDERR_FILENO, &out[..said]);
+        files::complain(rt, &out[..said]);
         return;
     }
     if 0 < had {
-        io::write_all(
-            STDERR_FILENO,
+        files::complain(
+            rt,
             b"logwrite: the last record is cut short, and is not logged\n",
         );
     }
 }
 
 // Logs read by read, until the input ends or a record has no room.
-fn run(input: &mut [u8], room: &mut [u8], out: &mut [u8])
+fn run<R: Read>(
+    rt: &(impl Print + Eprint),
+    reader: &mut R,
+    input: &mut [u8],
+    room: &mut [u8],
+    out: &mut [u8],
+)
     requires { (BLOCK * (length input.old + PAYLOAD) < PAYLOAD * (length out.old + 1)) × (BLOCK ≤ length out.old) }
 {
     let mut stand = logging::begin();
     let mut reads = READS;
     while 0 < reads {
         reads -= 1;
-        let Filled::To(end) = files::fill(STDIN_FILENO, input, stand.had) else {
-            os::fail(b"standard input");
+        let Filled::To(end) = files::fill(rt, reader, b"standard input", input, stand.had) else {
             return;
         };
         let course = stand.course;
         if end == stand.had {
-            finish(course, stand.had, room, out);
+            finish(rt, course, stand.had, room, out);
             return;
         }
         stand = logging::take(course, &mut input[..end], room, out);
         let laid = stand.laid;
-        if !files::write(&out[..laid]) {
+        if !files::write(rt, &out[..laid]) {
             return;
         }
         let next = stand.course;
         if logging::is_over(next) {
-            finish(next, 0, room, out);
+            finish(rt, next, 0, room, out);
             return;
         }
     }
 }
 
-fn main() {
-    if os::arg_count() != 1 {
-        io::write_all(
-            STDERR_FILENO,
+fn main(rt: HostRuntime) {
+    if 0 < files::arguments(&rt) {
+        files::complain(
+            &rt,
             b"logwrite: call it as `logwrite < RECORDS > LOG`, with no more words\n",
         );
         return;
@@ -84,5 +91,5 @@ fn main() {
     let mut input = [0u8; INPUT_MAX];
     let mut room = [0u8; ROOM];
     let mut out = [0u8; OUTPUT];
-    run(&mut input, &mut room, &mut out);
+    run(&rt, &mut rt.reader(), &mut input, &mut room, &mut out);
 }

@@ -3,48 +3,43 @@
 //
 // The files of data/ are in the walker's format, and its one listener is PUMP here too. A good list can't give refusal
 // 6. A file that can't be opened or read is said on standard error, and ends the run.
+#![tactic(auto)]
+
 ghost use Rattle.std.specs.Prelude.{◌≡◌};
 
-use libc::STDERR_FILENO;
+use files::ARGUMENT;
+use std::rt::Files;
 use walking::{Job, Told};
 
 // Walks through the file, behind a line with its name. Answers whether it could.
-fn walk_file(name: &[u8]) -> bool
+fn walk_file(rt: &(impl Files + Print + Eprint), name: &[u8]) -> bool
     ensures { name.now ≡ name.now }
 {
-    let fd = os::open_read(name);
-    if fd < 0 {
-        os::fail(name);
+    let Some(mut file) = files::open(rt, name) else {
+        return false;
+    };
+    if !files::write(rt, name) {
         return false;
     }
-    if !files::write(name) {
+    if !files::write(rt, b"\n") {
         return false;
     }
-    if !files::write(b"\n") {
-        return false;
-    }
-    let done = stream::run(Job::Client(Told::Lines), fd, name, b"PUMP\0");
-    libc::close(fd);
-    done
+    stream::run(rt, Job::Client(Told::Lines), &mut file, name, b"PUMP\0")
 }
 
-fn main() {
-    let count = os::arg_count();
-    if count < 2 {
-        io::write_all(STDERR_FILENO, b"runs: name the files to walk through\n");
+fn main(rt: HostRuntime) {
+    let count = files::arguments(&rt);
+    if count < 1 {
+        files::complain(&rt, b"runs: name the files to walk through\n");
         return;
     }
-    let mut i = 1;
-    while i < count {
-        let mut name = io::buffer();
-        let n = os::arg(i, &mut name);
-        if os::errno() != 0 {
-            os::fail(b"runs: a file's name");
+    for i in 0..count {
+        let mut name = [0u8; ARGUMENT];
+        let Some(n) = files::file_name(&rt, i + 1, b"runs: a file's name", &mut name) else {
+            return;
+        };
+        if !walk_file(&rt, &name[..n]) {
             return;
         }
-        if !walk_file(&name[..n]) {
-            return;
-        }
-        i += 1;
     }
 }

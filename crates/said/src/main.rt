@@ -8,6 +8,8 @@
 //
 // The stored input, whose text is the file `input`, has the examples of section 4 of [MS-RDPEDYC] and the widths of the
 // paper's 'Numbers to hold'.
+#![tactic(auto)]
+
 ghost use Rattle.std.specs.Prelude.{◌≡◌, ◌+◌, ◌≤◌, length, take};
 ghost use Rattle.lists.specs.Bytes.{laid, zeros};
 ghost use Rattle.paper.specs.Sizes.{PDU_MAX};
@@ -18,13 +20,14 @@ ghost use Rattle.said.specs.Saying.{row_of, spelled_out, text_of, line_of, first
 ghost use Rattle.said.specs.Saying.{again_of, answer_to, left_by, word_for};
 
 use files::Filled;
-use libc::{STDERR_FILENO, STDIN_FILENO};
 use paper::PDU_MAX;
 use reading::{Extent, Pdu};
 use writing::Written;
 
-// The bytes of the input.
+// The bytes of the input, and of a line.
 const INPUT: usize = 65536;
+
+const OUTPUT: usize = 4096;
 
 // The most numbers that a row has, with its Cmd.
 const FIELDS: usize = 6;
@@ -237,40 +240,39 @@ fn line(out: &mut [u8], from_server: bool, pdu: &[u8]) -> usize
 
 // Prints the line of the record at the front of the input, and answers how many bytes the record has; or `cut`, and 0.
 // Where the line can't be written, 0 too.
-fn show(input: &[u8]) -> usize
+fn show(rt: &(impl Print + Eprint), input: &[u8]) -> usize
     ensures { result ≤ length input.now }
 {
     let size = records::whole(input);
     if size <= records::LENGTH {
-        files::write(b"cut\n");
+        files::write(rt, b"cut\n");
         return 0;
     }
     let from_server = input[records::LENGTH] == b's';
-    let mut out = io::buffer();
+    let mut out = [0u8; OUTPUT];
     let n = line(&mut out, from_server, &input[records::LENGTH + 1..size]);
     let end = lists::lesser(n, out.len());
-    if files::write(&out[..end]) {
+    if files::write(rt, &out[..end]) {
         return size;
     }
     0
 }
 
-fn main() {
-    if 1 < os::arg_count() {
-        io::write_all(
-            STDERR_FILENO,
+fn main(rt: HostRuntime) {
+    if 0 < files::arguments(&rt) {
+        files::complain(
+            &rt,
             b"said: takes no arguments, and reads PDUs from standard input\n",
         );
         return;
     }
     let mut input = [0u8; INPUT];
-    let Filled::To(n) = files::load(STDIN_FILENO, &mut input) else {
-        os::fail(b"standard input");
+    let Filled::To(n) = files::load(&rt, &mut rt.reader(), b"standard input", &mut input) else {
         return;
     };
     let mut at = 0;
     while at < n {
-        let size = show(&input[at..n]);
+        let size = show(&rt, &input[at..n]);
         if size == 0 {
             return;
         }

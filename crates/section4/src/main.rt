@@ -4,42 +4,41 @@
 // its lines. The files' text is in inputs/. The same examples, read and written, are the stored input of `said`; where
 // each is checked is a table of docs/PROMISES.md. What can't be opened, read or written is said on standard error, and
 // ends the run.
+#![tactic(auto)]
+
 ghost use Rattle.std.specs.Prelude.{◌≡◌};
 
+use std::rt::Files;
 use walking::{Job, Told};
 
 // Walks through a file with a list, behind a line with its name. Answers whether it could. The list is as it was.
-fn walk(name: &[u8], list: &[u8]) -> bool
+fn walk(rt: &(impl Files + Print + Eprint), name: &[u8], list: &[u8]) -> bool
     ensures { list.now ≡ list.now }
 {
-    let fd = os::open_read(name);
-    if fd < 0 {
-        os::fail(name);
+    let Some(mut file) = files::open(rt, name) else {
+        return false;
+    };
+    if !files::write(rt, name) {
         return false;
     }
-    if !files::write(name) {
+    if !files::write(rt, b"\n") {
         return false;
     }
-    if !files::write(b"\n") {
-        return false;
-    }
-    let done = stream::run(Job::Client(Told::Lines), fd, name, list);
-    libc::close(fd);
-    done
+    stream::run(rt, Job::Client(Told::Lines), &mut file, name, list)
 }
 
-fn main() {
-    if !walk(b"examples", b"testdvc\0") {
+fn main(rt: HostRuntime) {
+    if !walk(&rt, b"examples", b"testdvc\0") {
         return;
     }
-    if !walk(b"numbers", b"testdvc\0") {
+    if !walk(&rt, b"numbers", b"testdvc\0") {
         return;
     }
     // 'Lists: empty is good; one zero byte alone gives 6.'
-    if !walk(b"create", b"") {
+    if !walk(&rt, b"create", b"") {
         return;
     }
-    if !walk(b"create", b"\0") {
+    if !walk(&rt, b"create", b"\0") {
         return;
     }
 }

@@ -4,14 +4,17 @@
 // ten-thousandths rounded down; the last line has `sums` and each class's sum, or, where the file's length is not a multiple of eight or
 // it has more than 65,536 sets, `refused 17` in place of them. A file that can't be opened or read is said on standard error, and no more
 // is printed. What is printed is the work of `planning`.
+#![tactic(auto)]
+
 ghost use Rattle.std.specs.Prelude.{◌*◌, ◌≤◌, ◌≡◌, length};
 ghost use Rattle.planning.specs.Sets.{SET};
 ghost use Rattle.planning.specs.Lines.{FOUR_MAX, LAST_MAX};
 
-use files::Filled;
-use libc::STDERR_FILENO;
+use files::{ARGUMENT, Filled};
 use paper::SETS_MAX;
 use planning::{Course, FOUR_MAX, LAST_MAX, SET};
+use std::io::Read;
+use std::rt::Files;
 
 // The sets that the input buffer has room for, and the bytes of the two buffers: a line for each set, or the last line.
 const SETS: usize = 4096;
@@ -24,16 +27,22 @@ const OUTPUT: usize = SETS * FOUR_MAX + LAST_MAX;
 const READS: usize = (SETS_MAX as usize + 2) * SET;
 
 // Writes the line that the report ends with.
-fn finish(course: Course, had: usize, out: &mut [u8])
+fn finish(rt: &(impl Print + Eprint), course: Course, had: usize, out: &mut [u8])
     requires { LAST_MAX ≤ length out.old }
     ensures { length out.new ≡ length out.old }
 {
     let laid = planning::say(out, planning::ending(course, had));
-    files::write(&out[..laid]);
+    files::write(rt, &out[..laid]);
 }
 
 // Reports read by read, until the file ends or has too many sets.
-fn report(fd: i32, name: &[u8], buffer: &mut [u8], out: &mut [u8])
+fn report<R: Read>(
+    rt: &(impl Print + Eprint),
+    reader: &mut R,
+    name: &[u8],
+    buffer: &mut [u8],
+    out: &mut [u8],
+)
     requires { (FOUR_MAX * length buffer.old ≤ SET * length out.old) × (LAST_MAX ≤ length out.old) }
     ensures { name.now ≡ name.now }
 {
@@ -41,56 +50,49 @@ fn report(fd: i32, name: &[u8], buffer: &mut [u8], out: &mut [u8])
     let mut reads = READS;
     while 0 < reads {
         reads -= 1;
-        let Filled::To(end) = files::fill(fd, buffer, stand.had) else {
-            os::fail(name);
+        let Filled::To(end) = files::fill(rt, reader, name, buffer, stand.had) else {
             return;
         };
         let course = stand.course;
         if end == stand.had {
-            finish(course, stand.had, out);
+            finish(rt, course, stand.had, out);
             return;
         }
         stand = planning::turn(course, &mut buffer[..end], out);
         let laid = stand.laid;
-        if !files::write(&out[..laid]) {
+        if !files::write(rt, &out[..laid]) {
             return;
         }
         let next = stand.course;
         if planning::is_over(next) {
-            finish(next, stand.had, out);
+            finish(rt, next, stand.had, out);
             return;
         }
     }
 }
 
 // Opens the file, and reports.
-fn run(name: &[u8])
+fn run(rt: &(impl Files + Print + Eprint), name: &[u8])
     ensures { name.now ≡ name.now }
 {
-    let fd = os::open_read(name);
-    if fd < 0 {
-        os::fail(name);
+    let Some(mut file) = files::open(rt, name) else {
         return;
-    }
+    };
     let mut buffer = [0u8; INPUT];
     let mut out = [0u8; OUTPUT];
-    report(fd, name, &mut buffer, &mut out);
-    libc::close(fd);
+    report(rt, &mut file, name, &mut buffer, &mut out);
 }
 
-fn main() {
-    if os::arg_count() != 2 {
-        io::write_all(
-            STDERR_FILENO,
+fn main(rt: HostRuntime) {
+    if files::arguments(&rt) != 1 {
+        files::complain(
+            &rt,
             b"shares: call it as `shares FILE`, a file of eight-byte sets of four charges\n",
         );
         return;
     }
-    let mut name = io::buffer();
-    let n = os::arg(1, &mut name);
-    if os::errno() != 0 {
-        os::fail(b"shares: the file's name");
-        return;
+    let mut name = [0u8; ARGUMENT];
+    if let Some(n) = files::file_name(&rt, 1, b"shares: the file's name", &mut name) {
+        run(&rt, &name[..n]);
     }
-    run(&name[..n]);
 }

@@ -1,17 +1,20 @@
-// A walk over what a descriptor gives.
+// A walk over what a reader gives.
 //
-// `program` is the whole of a program that walks over standard input, and `run` walks over any descriptor. They only
+// `program` is the whole of a program that walks over standard input, and `run` walks over any reader. They only
 // read, call and write: what is written, when a read is due and when the run ends is `walking`'s to say, and no
 // contract can say what is read. A read or a write that fails is said on standard error, and ends the run.
+#![tactic(auto)]
+
 ghost use Rattle.std.specs.Prelude.{◌≤◌, ◌≡◌, length, take};
 ghost use Rattle.files.specs.Files.{Fills};
 ghost use Rattle.records.specs.Desk.{RECORD_MAX};
 ghost use Rattle.walking.specs.Walking.{room_for};
 
 use files::Filled;
-use libc::{STDERR_FILENO, STDIN_FILENO};
 use paper::STORE;
 use records::{Due, RECORD_MAX};
+use std::io::Read;
+use std::rt::Env;
 use walking::Job;
 
 // The bytes of the store: room for both ends'.
@@ -24,13 +27,20 @@ const INPUT: usize = 2 * RECORD_MAX;
 const OUTPUT: usize = 65536;
 
 // What the buffer has for the next turn: where the walk waits for a read, what that brings behind what was left.
-fn supply(due: Due, fd: i32, buffer: &mut [u8], had: usize) -> Filled
+fn supply<R: Read>(
+    rt: &impl Eprint,
+    due: Due,
+    reader: &mut R,
+    name: &[u8],
+    buffer: &mut [u8],
+    had: usize,
+) -> Filled
     requires { had ≤ length buffer.old }
     ensures fills { Fills had (length buffer.old) result }
     ensures buffer_unchanged { take had buffer.new ≡ take had buffer.old }
 {
     match due {
-        Due::Read => files::fill(fd, buffer, had),
+        Due::Read => files::fill(rt, reader, name, buffer, had),
         Due::Room => Filled::To(had),
         Due::Nothing => Filled::To(had),
     }
@@ -38,9 +48,10 @@ fn supply(due: Due, fd: i32, buffer: &mut [u8], had: usize) -> Filled
 
 // Turn by turn: writes the text of each, and supplies the next. The output has room for any text of the job, and the
 // buffer for any record, so that no turn is in vain. Answers whether the walk came to its end.
-fn turn_by_turn(
+fn turn_by_turn<R: Read>(
+    rt: &(impl Print + Eprint),
     job: Job,
-    fd: i32,
+    reader: &mut R,
     name: &[u8],
     list: &[u8],
     store: &mut [u8],
@@ -56,7 +67,7 @@ fn turn_by_turn(
     while 0 < turns {
         turns -= 1;
         let laid = turned.laid;
-        if !files::write(&out[..laid]) {
+        if !files::write(rt, &out[..laid]) {
             return false;
         }
         let stand = turned.stand;
@@ -64,8 +75,7 @@ fn turn_by_turn(
         if let Due::Nothing = due {
             return true;
         }
-        let Filled::To(end) = supply(due, fd, buffer, stand.had) else {
-            os::fail(name);
+        let Filled::To(end) = supply(rt, due, reader, name, buffer, stand.had) else {
             return false;
         };
         turned = walking::turn(job, stand, store, list, &mut buffer[..end], out);
@@ -73,26 +83,41 @@ fn turn_by_turn(
     false
 }
 
-// Does a job over what the descriptor gives. Its name is said where it can't be read. Answers whether the run came to
-// its end.
-pub fn run(job: Job, fd: i32, name: &[u8], list: &[u8]) -> bool
+// Does a job over what the reader gives. Its name is said where it can't be read. Answers whether the run came to its
+// end.
+pub fn run<R: Read>(
+    rt: &(impl Print + Eprint),
+    job: Job,
+    reader: &mut R,
+    name: &[u8],
+    list: &[u8],
+) -> bool
     ensures { (name.now ≡ name.now) × (list.now ≡ list.now) }
 {
     let mut store = [0u8; BOTH];
     let mut buffer = [0u8; INPUT];
     let mut out = [0u8; OUTPUT];
     let n = walking::store_for(job);
-    turn_by_turn(job, fd, name, list, &mut store[..n], &mut buffer, &mut out)
+    turn_by_turn(
+        rt,
+        job,
+        reader,
+        name,
+        list,
+        &mut store[..n],
+        &mut buffer,
+        &mut out,
+    )
 }
 
 // A program that does a job over standard input. It takes no arguments: any is bad use, which is said in the line
 // given.
-pub fn program(job: Job, list: &[u8], bad_use: &[u8])
+pub fn program(rt: &(impl Env + Input + Print + Eprint), job: Job, list: &[u8], bad_use: &[u8])
     ensures { (list.now ≡ list.now) × (bad_use.now ≡ bad_use.now) }
 {
-    if 1 < os::arg_count() {
-        io::write_all(STDERR_FILENO, bad_use);
+    if 0 < files::arguments(rt) {
+        files::complain(rt, bad_use);
         return;
     }
-    run(job, STDIN_FILENO, b"standard input", list);
+    run(rt, job, &mut rt.reader(), b"standard input", list);
 }

@@ -2,10 +2,12 @@
 //
 // The input is the walker's, and the one argument says who sent the PDUs, `server` or `client`. A line has the PDU's
 // place and `ok`, or its place, `refused` and the refusal's number.
+#![tactic(auto)]
+
 ghost use Rattle.std.specs.Prelude.{◌≡◌};
 ghost use Rattle.strict.specs.Senders.{named_by};
 
-use libc::{STDERR_FILENO, STDIN_FILENO};
+use files::ARGUMENT;
 use walking::Job;
 
 // Who sent the PDUs.
@@ -28,23 +30,24 @@ fn named(word: &[u8]) -> Sender
     Sender::Unknown
 }
 
-fn main() {
-    if os::arg_count() == 2 {
+fn main(rt: HostRuntime) {
+    if files::arguments(&rt) == 1 {
         // One that is too long comes as nothing, which names nobody.
-        let mut word = io::buffer();
-        let n = os::arg(1, &mut word);
+        let mut word = [0u8; ARGUMENT];
+        let n = files::argument(&rt, 1, &mut word);
         if let Sender::Known { from_server } = named(&word[..n]) {
             stream::run(
+                &rt,
                 Job::Strict { from_server },
-                STDIN_FILENO,
+                &mut rt.reader(),
                 b"standard input",
                 b"",
             );
             return;
         }
     }
-    io::write_all(
-        STDERR_FILENO,
+    files::complain(
+        &rt,
         b"strict: call it as `strict server` or `strict client`, by who sent the PDUs on standard input\n",
     );
 }

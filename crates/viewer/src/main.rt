@@ -7,28 +7,30 @@
 // converted is left out, and said on standard error; more than 65,536 bytes are said there too, and nothing is written.
 //
 // What is printed and said of names and lines is the work of `viewing`.
+#![tactic(auto)]
+
 ghost use Rattle.std.specs.Prelude.{◌≡◌};
 ghost use Rattle.viewing.specs.Ways.{is_known};
 
-use files::Filled;
-use libc::{STDERR_FILENO, STDIN_FILENO};
+use files::{ARGUMENT, Filled};
+use std::io::Read;
 use viewing::{Gathered, LINES_MAX, SAY_MAX, Shown, TEXT_MAX, Way};
 
 // One byte more than a text can have: what has it is too long, and as a list it is outside its rule.
 const INPUT: usize = TEXT_MAX + 1;
 
 // Prints the names of a list. The list is as it was.
-fn show(list: &[u8])
+fn show(rt: &(impl Print + Eprint), list: &[u8])
     ensures { list.now ≡ list.now }
 {
     let mut out = [0u8; LINES_MAX];
     match viewing::show(list, &mut out) {
         Shown::Lines(n) => {
-            files::write(&out[..n]);
+            files::write(rt, &out[..n]);
         }
         Shown::Outside => {
-            io::write_all(
-                STDERR_FILENO,
+            files::complain(
+                rt,
                 b"viewer: no listener list: it has at most 512 bytes, of names that are not empty, each with a zero byte behind it\n",
             );
         }
@@ -37,7 +39,7 @@ fn show(list: &[u8])
 }
 
 // Says on standard error which lines are left out. The text is as it was.
-fn complain(text: &[u8])
+fn complain(rt: &impl Eprint, text: &[u8])
     ensures { text.now ≡ text.now }
 {
     let mut out = [0u8; SAY_MAX];
@@ -47,65 +49,61 @@ fn complain(text: &[u8])
         let line = viewing::line_at(text, at);
         let verdict = line.verdict;
         let n = viewing::say(&mut out, number, verdict);
-        io::write_all(STDERR_FILENO, &out[..n]);
+        files::complain(rt, &out[..n]);
         at = line.next;
         number += 1;
     }
 }
 
 // Writes the list of a text's lines. The text is as it was.
-fn gather(text: &[u8])
+fn gather(rt: &(impl Print + Eprint), text: &[u8])
     ensures { text.now ≡ text.now }
 {
     let mut out = [0u8; INPUT];
     match viewing::gather(text, &mut out) {
         Gathered::Bytes(n) => {
-            if files::write(&out[..n]) {
-                complain(text);
+            if files::write(rt, &out[..n]) {
+                complain(rt, text);
             }
         }
         Gathered::TooLong => {
-            io::write_all(
-                STDERR_FILENO,
-                b"viewer: the lines have more than 65,536 bytes\n",
-            );
+            files::complain(rt, b"viewer: the lines have more than 65,536 bytes\n");
         }
         Gathered::NoRoom => {}
     }
 }
 
 // Does what is asked for, and answers whether anything was.
-fn run(way: Way) -> bool
+fn run<R: Read>(rt: &(impl Print + Eprint), reader: &mut R, way: Way) -> bool
     ensures { result ≡ is_known way }
 {
     if let Way::Unknown = way {
         return false;
     }
     let mut input = [0u8; INPUT];
-    let Filled::To(n) = files::load(STDIN_FILENO, &mut input) else {
-        os::fail(b"standard input");
+    let Filled::To(n) = files::load(rt, reader, b"standard input", &mut input) else {
         return true;
     };
     match way {
-        Way::ToUtf8 => show(&input[..n]),
-        Way::ToList => gather(&input[..n]),
+        Way::ToUtf8 => show(rt, &input[..n]),
+        Way::ToList => gather(rt, &input[..n]),
         Way::Unknown => {}
     }
     true
 }
 
-fn main() {
-    if os::arg_count() == 2 {
+fn main(rt: HostRuntime) {
+    if files::arguments(&rt) == 1 {
         // One that is too long comes as nothing, which asks for nothing.
-        let mut word = io::buffer();
-        let n = os::arg(1, &mut word);
+        let mut word = [0u8; ARGUMENT];
+        let n = files::argument(&rt, 1, &mut word);
         let way = viewing::asked(&word[..n]);
-        if run(way) {
+        if run(&rt, &mut rt.reader(), way) {
             return;
         }
     }
-    io::write_all(
-        STDERR_FILENO,
+    files::complain(
+        &rt,
         b"viewer: call it as `viewer utf8`, with a listener list on standard input, or as `viewer 1252`, with lines of UTF-8\n",
     );
 }

@@ -4,14 +4,16 @@
 // fields of the walker's line without the place, and behind them for a 13 the place and the refusal that spoiled the channel, for
 // any other refusal the name of the first rule that held. Where the input doesn't have the place whole it is `absent`. What is said
 // and the text of the line are the work of `cause`.
+#![tactic(auto)]
+
 ghost use Rattle.std.specs.Prelude.{◌≤◌, ◌≡◌, length};
 ghost use Rattle.cause.specs.Why.{WHY_MAX};
 
 use cause::{Said, Sought, WHY_MAX};
 use files::Filled;
-use libc::{STDERR_FILENO, STDIN_FILENO};
 use paper::STORE;
 use records::RECORD_MAX;
+use std::io::Read;
 
 // The bytes of the input buffer: room for two records of the greatest length.
 const INPUT: usize = 2 * RECORD_MAX;
@@ -20,28 +22,35 @@ const INPUT: usize = 2 * RECORD_MAX;
 const WORD: usize = 131072;
 
 // Writes the line of what is said.
-fn say(said: Said, out: &mut [u8])
+fn say(rt: &(impl Print + Eprint), said: Said, out: &mut [u8])
     requires { WHY_MAX ≤ length out.old }
     ensures { length out.new ≡ length out.old }
 {
     let laid = cause::say(out, said);
-    files::write(&out[..laid]);
+    files::write(rt, &out[..laid]);
 }
 
 // Writes the line of what is said, if anything is. Answers whether.
-fn is_said(said: Said, out: &mut [u8]) -> bool
+fn is_said(rt: &(impl Print + Eprint), said: Said, out: &mut [u8]) -> bool
     requires { WHY_MAX ≤ length out.old }
     ensures { length out.new ≡ length out.old }
 {
     if let Said::NotYet = said {
         return false;
     }
-    say(said, out);
+    say(rt, said, out);
     true
 }
 
 // Goes through the input read by read, until something is said of the place or the input ends.
-fn search(place: u64, store: &mut [u8], buffer: &mut [u8], out: &mut [u8])
+fn search<R: Read>(
+    rt: &(impl Print + Eprint),
+    reader: &mut R,
+    place: u64,
+    store: &mut [u8],
+    buffer: &mut [u8],
+    out: &mut [u8],
+)
     requires { WHY_MAX ≤ length out.old }
     ensures { length out.new ≡ length out.old }
 {
@@ -52,41 +61,47 @@ fn search(place: u64, store: &mut [u8], buffer: &mut [u8], out: &mut [u8])
         reads -= 1;
         let course = stand.course;
         let said = course.said;
-        if is_said(said, out) {
+        if is_said(rt, said, out) {
             return;
         }
-        let Filled::To(end) = files::fill(STDIN_FILENO, buffer, stand.had) else {
-            os::fail(b"standard input");
+        let Filled::To(end) = files::fill(rt, reader, b"standard input", buffer, stand.had) else {
             return;
         };
         if end == stand.had {
-            say(said, out);
+            say(rt, said, out);
             return;
         }
         stand = cause::turn(place, course, store, b"PUMP\0", &mut buffer[..end]);
     }
 }
 
-fn main() {
-    if os::arg_count() == 2 {
+fn main(rt: HostRuntime) {
+    if files::arguments(&rt) == 1 {
         let mut word = [0u8; WORD];
-        let n = os::arg(1, &mut word);
+        let n = files::argument(&rt, 1, &mut word);
         let sought = cause::sought_in(&word[..n]);
         let mut out = [0u8; WHY_MAX];
         if let Sought::Place(place) = sought {
             let mut store = [0u8; STORE];
             let mut buffer = [0u8; INPUT];
-            search(place, &mut store, &mut buffer, &mut out);
+            search(
+                &rt,
+                &mut rt.reader(),
+                place,
+                &mut store,
+                &mut buffer,
+                &mut out,
+            );
             return;
         }
         // No input has it.
         if let Sought::Beyond = sought {
-            say(Said::NotYet, &mut out);
+            say(&rt, Said::NotYet, &mut out);
             return;
         }
     }
-    io::write_all(
-        STDERR_FILENO,
+    files::complain(
+        &rt,
         b"why: call it as `why PLACE`, a place from 0 on in digits, with the walker's input on standard input\n",
     );
 }
