@@ -2,4 +2,3 @@
 //
 // specs/Ends says what is on its way between the two and what can come about; specs/Joined, what then holds.
 #![tactic(auto)]
-
