@@ -11,7 +11,8 @@ unfolding zeros
 loop-i-init c = (omega arith, refl, refl)
 
 pub loop-i-preserved : goal.loop-i-preserved
-loop-i-preserved c = let l = c.loop-i in
+loop-i-preserved c =
+    let l = c.loop-i in
     elim c.if-i-bytes.branch [
       | then-i-bytes w ↦ (
         omega arith,

@@ -48,13 +48,15 @@ bounds-table-i c = search rules
 
 pub returns-then-record-gt3 : goal.returns-then-record-gt3
 unfolding PARTS
-returns-then-record-gt3 c = let l = c.loop-i in
+returns-then-record-gt3 c =
+    let l = c.loop-i in
     let t = c.args.table in
     sym (l.invariant.1 ∙ every_not _ _ l.i blank (omega arith) (over t.ready (get_or t.records l.i blank) c.if-record-gt3.true))
 
 pub returns-then-not-table : goal.returns-then-not-table
 unfolding PARTS
-returns-then-not-table c = let l = c.loop-i in
+returns-then-not-table c =
+    let l = c.loop-i in
     let t = c.args.table in
     let shut = c.if-not-table.true in
     sym (l.invariant.1 ∙ every_not _ _ l.i blank (omega arith) (too_soon_law t.ready (get_or t.records l.i blank) shut c.if-record.true))
@@ -69,7 +71,8 @@ loop-i-smaller c = search rules
 
 pub loop-i-preserved : goal.loop-i-preserved
 unfolding PARTS
-loop-i-preserved c = let l = c.loop-i in
+loop-i-preserved c =
+    let l = c.loop-i in
     let t = c.args.table in
     let r = get_or t.records l.i blank in
     let class : r.class ≤ 3 = omega (arith, c.if-record-gt3.false) in
@@ -81,5 +84,6 @@ loop-i-preserved c = let l = c.loop-i in
 
 pub returns : goal.returns
 unfolding PARTS
-returns c = let l = c.loop-i in
+returns c =
+    let l = c.loop-i in
     sym (l.invariant.1 ∙ every_end _ _ l.i (omega arith))

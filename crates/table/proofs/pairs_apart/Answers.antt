@@ -25,7 +25,8 @@ overflow_add-i c = search rules
 
 pub returns-then-held_from : goal.returns-then-held_from
 unfolding PARTS
-returns-then-held_from c = let l = c.loop-i in
+returns-then-held_from c =
+    let l = c.loop-i in
     sym (l.invariant.1 ∙ twice_here _ l.i (omega arith) (rw c.if-record.true (sym c.held_from.ensures ∙ c.if-held_from.true)))
 
 pub overflow_add-i-in-loop-i : goal.overflow_add-i-in-loop-i
@@ -48,5 +49,6 @@ loop-i-preserved c = let l = c.loop-i in (
 
 pub returns : goal.returns
 unfolding PARTS
-returns c = let l = c.loop-i in
+returns c =
+    let l = c.loop-i in
     sym (l.invariant.1 ∙ twice_end _ l.i (omega arith))

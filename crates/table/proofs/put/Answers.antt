@@ -61,7 +61,8 @@ totals_after-next-requires c = search rules
 
 pub returns : goal.returns
 unfolding PARTS put_back placed
-returns c = let l = c.loop-i in
+returns c =
+    let l = c.loop-i in
     let bit = c.bit-rest.ensures ∙ ap bit_of c.site.ensures in
     let rows = done _ _ _ l.i l.rest l.next (omega arith) (l.invariant.2 _ bit) in
     ap (λ (t : Table). record { totals = c.totals_after-next.result; ready = t.ready; level = t.level; records = t.records }) rows

@@ -42,21 +42,24 @@ bounds-table-i c = search rules
 
 pub returns-then-wanted-held : goal.returns-then-wanted-held
 unfolding PARTS
-returns-then-wanted-held c = let l = c.loop-i in
+returns-then-wanted-held c =
+    let l = c.loop-i in
     let r = get_or c.args.table.records l.i blank in
     let bad = over_held r _ _ c.in-Joining.is c.if-wanted-held.true in
     sym (rw (l.invariant.1 ∙ every_not is_staged c.args.table.records l.i blank (omega arith) bad))
 
 pub returns-then-wanted-gt-MESSAGE_MAX : goal.returns-then-wanted-gt-MESSAGE_MAX
 unfolding PARTS MESSAGE_MAX
-returns-then-wanted-gt-MESSAGE_MAX c = let l = c.loop-i in
+returns-then-wanted-gt-MESSAGE_MAX c =
+    let l = c.loop-i in
     let r = get_or c.args.table.records l.i blank in
     let bad = over_long r _ _ c.in-Joining.is c.if-wanted-gt-MESSAGE_MAX.true in
     sym (rw (l.invariant.1 ∙ every_not is_staged c.args.table.records l.i blank (omega arith) bad))
 
 pub overflow_add-awaited : goal.overflow_add-awaited
 unfolding PARTS
-overflow_add-awaited c = let l = c.loop-i in
+overflow_add-awaited c =
+    let l = c.loop-i in
     omega (arith, l.invariant.3, c.if-wanted-gt-MESSAGE_MAX.false)
 
 pub overflow_add-i : goal.overflow_add-i
@@ -69,7 +72,8 @@ loop-i-smaller c = search rules
 
 pub loop-i-preserved : goal.loop-i-preserved
 unfolding PARTS MESSAGE_MAX
-loop-i-preserved c = let l = c.loop-i in
+loop-i-preserved c =
+    let l = c.loop-i in
     let rs = c.args.table.records in
     let r = get_or rs l.i blank in
     let is_it = sym (counts_open rs c.args.marked c.requires l.i) in
@@ -94,7 +98,8 @@ loop-i-preserved c = let l = c.loop-i in
 
 pub returns : goal.returns
 unfolding PARTS
-returns c = let l = c.loop-i in
+returns c =
+    let l = c.loop-i in
     let rs = c.args.table.records in
     let all = l.invariant.1 ∙ every_end is_staged rs l.i (omega arith) in
     let sum : l.awaited ≡ total awaits rs = omega (arith, l.invariant.2, total_end awaits rs l.i (omega arith)) in
