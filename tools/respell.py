@@ -16,6 +16,7 @@ import sys
 ROOT = os.path.abspath(sys.argv[1] if len(sys.argv) > 1 else os.path.join(os.path.dirname(os.path.abspath(__file__)), ".."))
 WORD = re.compile(r"[^\s(){}\[\].,;:λ→=≡×+*/<>≤≥∷⊎↔¬∙∧∨∀∃⊢⟨⟩←↦|\"'`!#&@?\\◌]+'*")
 DECLARED = re.compile(r"^\s*(?:(?:pub|abbrev|unfoldable)\s+)*((?:[\w-]+'*\s+)*[\w-]+'*)\s+:(?:\s|$)")
+TYPE = re.compile(r"^\s*(?:pub\s+)?(?:record|data)\s+([\w-]+'*)")
 LET = re.compile(r"(?:^|[\s(])let\s+([\w-]+'*)\s*(?::\s|=)")
 USE = re.compile(r"^\s*(?:pub\s+)?(?:ghost\s+)?use\s+([^\s{;]+?)(?:\.\{([^}]*)\}|(?:\s+as\s+([\w-]+)))?;?\s*$")
 MADE = re.compile(r"\.proofs\.(?:\+?\w+\.)*\+?\w+\.(?:Goals|Given|Tie|Reads|Lts|Statement)\b")
@@ -71,6 +72,7 @@ def own_names(texts):
             if re.match(r"\s*(pub\s+)?record\s+\S+.*where\s*$", code):
                 body = len(code) - len(code.lstrip())
             names.update(LET.findall(code))
+            names.update(TYPE.findall(code))
     return names, fields, in_specs
 
 

@@ -3,6 +3,8 @@
 //
 // `seal` lays bytes behind those that a block has, and makes its head anew. `good` judges a block that was read. Both take
 // slices of any length: no other length than 512 is good, and of another `seal` makes nothing.
+#![tactic(auto)]
+
 ghost use Rattle.std.specs.Prelude.{◌≡◌, ◌+◌, ◌≤◌, ◌<◌, length, drop};
 ghost use Rattle.lists.specs.Bytes.{laid};
 ghost use Rattle.numbers.specs.Numbers.{bytes_of, value_at};

@@ -1,15 +1,14 @@
 -- An answer that is no refusal.
 -- Assumes nothing.
-use Rattle.std.proofs.Common.{◌≡◌, [], ◌∷◌, refl}
-use types.Run.{OneOf, miss}
-use denote.Enum.Declared.{tag_of}
+use Rattle.std.proofs.Common.{◌≡◌, refl}
+use Rattle.paper.specs.declared.Refusal.{Refusal}
 use Rattle.paper.specs.Rows.{fine}
+use Rattle.channel.specs.declared.Concern.{Concern}
 use Rattle.channel.specs.declared.Answer.{Answer}
 use Rattle.channel.specs.declared.Answer.TheVariants.{Ready, Opened, Declined, Held, Message, Closed, Ignored, Refused}
-use Rattle.channel.specs.contracts.Answer.{the_type}
 use Rattle.steps.specs.Rows.{verdict_of}
 
-pub accepted : (a : Answer) → OneOf (0 ∷ 1 ∷ 2 ∷ 3 ∷ 4 ∷ 5 ∷ 6 ∷ []) (tag_of the_type a) → verdict_of a ≡ fine
+pub accepted : (a : Answer) → ((why : Refusal) (concern : Concern) → a ≡ Refused why concern → ⊥) → verdict_of a ≡ fine
 unfolding verdict_of
 accepted (Ready level) k = refl
 accepted (Opened n) k = refl
@@ -18,4 +17,4 @@ accepted (Held n left) k = refl
 accepted (Message n len) k = refl
 accepted (Closed n) k = refl
 accepted (Ignored n) k = refl
-accepted (Refused why concern) k = absurd (miss (0 ∷ 1 ∷ 2 ∷ 3 ∷ 4 ∷ 5 ∷ 6 ∷ []) 7 tt k)
+accepted (Refused why concern) k = absurd (k why concern refl)

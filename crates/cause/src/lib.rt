@@ -5,6 +5,8 @@
 // that came out before, until something is said or the input ends; `say` then lays the program's one line. Nothing is kept but the
 // course, with a note for each of the sixteen records: the input may have any length. `sought_in` is the program's argument. Each takes
 // anything, and none refuses.
+#![tactic(auto)]
+
 ghost use Rattle.std.specs.Prelude.{◌≡◌, ℕ, ◌+◌, ◌-◌, ◌*◌, ◌≤◌, cond, length, if◌then◌else◌};
 ghost use Rattle.paper.specs.Rows.{refused_with};
 ghost use Rattle.lists.specs.Bytes.{laid};

@@ -79,7 +79,7 @@ own_should n p s (Of m a ∷ es) r =
         → cons_if t (told_if (event_meets_full p (Of m a)) m (s.stand m) a) (told_with (cond (eqb n m) (joins_if (event_meets_full p (Of m a)) (s.stand m) a).join (s.stand n)) (keep (is_of n) es) (flags_for n (paper_next p (Of m a)) es)) ≡ told_with (s.stand n) (cons_if t (Of m a) (keep (is_of n) es)) (cons_if t (event_meets_full p (Of m a)) (flags_for n (paper_next p (Of m a)) es))
     go true e =
         let same : m ≡ n = eqb-true m n e in
-        rw (eq-eqb n m (sym same), ← same)
+        rw (eq-eqb n m (sym same), same)
     go false e = rw (ne_eqb n m (λ (d : n ≡ m). eqb-false m n e (sym d)))
 
 -- so a manager that is right in a run tells one channel that

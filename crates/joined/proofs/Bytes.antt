@@ -38,7 +38,7 @@ use Rattle.channel.specs.Turns.{OUR_VERSION}
 use Rattle.demands.specs.Cut.{Cut, Cuts, last_one, one_more, CutByUs}
 use Rattle.shore.specs.Events.{event_of}
 use Rattle.joined.specs.Ends.{HostData, data_first_law as is_first_law, data_more}
-use Rattle.joined.specs.Joined.{One-of, here, there}
+use Rattle.joined.specs.Joined.{OneOf, here, there}
 use Rattle.shore_demands.proofs.Values.{event_of_value as said_by, encoded_event}
 use Rattle.joined.proofs.Queues.{Sent, down_of, up_of, response_of}
 
@@ -168,15 +168,16 @@ module _ (n : ℕ) (m : List ℕ) (lent : ℕ → List ℕ) (small : n < NUMBERS
   -- each of the calls
   cuts_are :
       (at : ℕ) (cs : List Cut) → Cuts (λ o. cut_at n m o (lent o)) (λ o. cut_buffer n m o (lent o)) (length m) at cs
-      → (c : Cut) → One-of c cs → HostData c.pdu
+      → (c : Cut) → OneOf c cs → HostData c.pdu
   cuts_are at cs (last_one len next e end) c here = cut_one n m at (lent at) len next small e
+  cuts_are _ _ (last_one {at = at} len next e end) c (there o) = elim o [ ]
   cuts_are at cs (one_more len next rest e below k) c here = cut_one n m at (lent at) len next small e
   cuts_are at cs (one_more len next rest e below k) c (there o) = cuts_are next rest k c o
 
 -- from the first on
 pub cut_by_us :
     (n : ℕ) (m : List ℕ) (lent : ℕ → List ℕ) (cs : List Cut) → n < NUMBERS → CutByUs n m lent cs
-    → (c : Cut) → One-of c cs → HostData c.pdu
+    → (c : Cut) → OneOf c cs → HostData c.pdu
 cut_by_us n m lent cs small by c o = cuts_are n m lent small 0 cs by c o
 
 -- ---- what reading makes sure of: a number of four bytes, a version from 1 on

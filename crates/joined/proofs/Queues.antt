@@ -22,7 +22,7 @@ use Rattle.shore_demands.proofs.Values.{event_of_value as said_by}
 use Rattle.shore.specs.Rules.{is_below_zero}
 use Rattle.shore.specs.Events.{Event, Unreadable, Asking, Response, Opening, Of}
 use Rattle.joined.specs.Ends.{post}
-use Rattle.joined.specs.Joined.{On-its-way, first, later}
+use Rattle.joined.specs.Joined.{OnItsWay, first, later}
 use Rattle.joined.proofs.Ties.{Down, Asks, Ends, Up, Over, says}
 
 -- ---- encodings on their way
@@ -52,7 +52,7 @@ unfolding read_as
 not_refused {dir} {pdu} s why e = let r = sym (is_read s) ∙ ap (meant pdu) e in let z : ◌≡◌ {A = ℕ} 0 1 = cc in omega arith
 
 -- one of a queue
-pub one_sent : {dir : Bool} {pdu : List ℕ} {queue : List (List ℕ)} → On-its-way pdu queue → AllSent dir queue → Sent dir pdu
+pub one_sent : {dir : Bool} {pdu : List ℕ} {queue : List (List ℕ)} → OnItsWay pdu queue → AllSent dir queue → Sent dir pdu
 one_sent first a = a.0
 one_sent (later o) a = one_sent o a.1
 

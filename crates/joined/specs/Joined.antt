@@ -24,14 +24,14 @@ use Rattle.shore_demands.specs.Runs as shore
 use Rattle.joined.specs.Ends.{Move, AllProper, HostData, reached, open_at_shore, open_at_panel}
 
 -- a PDU stands in a queue
-pub data On-its-way (pdu : List ℕ) : List (List ℕ) → Type 0 where
-  first : {rest : List (List ℕ)} → On-its-way pdu (pdu ∷ rest)
-  later : {other : List ℕ} {rest : List (List ℕ)} → On-its-way pdu rest → On-its-way pdu (other ∷ rest)
+pub data OnItsWay (pdu : List ℕ) : List (List ℕ) → Type 0 where
+  first : {rest : List (List ℕ)} → OnItsWay pdu (pdu ∷ rest)
+  later : {other : List ℕ} {rest : List (List ℕ)} → OnItsWay pdu rest → OnItsWay pdu (other ∷ rest)
 
 -- what is cut, one of the PDUs
-pub data One-of (c : Cut) : List Cut → Type 0 where
-  here : {cs : List Cut} → One-of c (c ∷ cs)
-  there : {d : Cut} {cs : List Cut} → One-of c cs → One-of c (d ∷ cs)
+pub data OneOf (c : Cut) : List Cut → Type 0 where
+  here : {cs : List Cut} → OneOf c (c ∷ cs)
+  there : {d : Cut} {cs : List Cut} → OneOf c cs → OneOf c (d ∷ cs)
 
 -- whatever came about from Start at both ends
 module _ (one two : List ℕ) (ms : List Move) where
@@ -48,9 +48,9 @@ module _ (one two : List ℕ) (ms : List Move) where
         → (shore.gives (reached one two ms).shore (shore.receives pdu) buffer).said ≢ said.Refused NotAwaited concern
     -- no PDU is refused in reading by the other end
     pub panel_reads :
-        (pdu : List ℕ) → On-its-way pdu (reached one two ms).down → (why : Refusal) → read_pdu true pdu ≢ read.Refused why
+        (pdu : List ℕ) → OnItsWay pdu (reached one two ms).down → (why : Refusal) → read_pdu true pdu ≢ read.Refused why
     pub shore_reads :
-        (pdu : List ℕ) → On-its-way pdu (reached one two ms).up → (why : Refusal) → read_pdu false pdu ≢ read.Refused why
+        (pdu : List ℕ) → OnItsWay pdu (reached one two ms).up → (why : Refusal) → read_pdu false pdu ≢ read.Refused why
 
 pub record JoinedEnds : Type 0 where
   pub same_open_numbers :
@@ -76,4 +76,4 @@ pub record JoinedEnds : Type 0 where
       → HostData (take k (buffer_after (outcome (written false (data_bytes n block) out)) (data_bytes n block) out))
   pub cut_by_us :
       (n : ℕ) (m : List ℕ) (lent : ℕ → List ℕ) (cs : List Cut) → n < NUMBERS → CutByUs n m lent cs
-      → (c : Cut) → One-of c cs → HostData c.pdu
+      → (c : Cut) → OneOf c cs → HostData c.pdu

@@ -4,6 +4,8 @@
 // came out before; `comes_to` says what the list has come to where no further PDU follows. Nothing is kept but the course: the list
 // may have any length. `head_needs` and `say` are the program's: what stands before the PDUs in its input, and its one line.
 // Each takes anything, and none refuses.
+#![tactic(auto)]
+
 ghost use Rattle.std.specs.Prelude.{◌≡◌, ◌≤◌, ◌&&◌, length, ◌==◌};
 ghost use Rattle.lists.specs.Bytes.{laid};
 ghost use Rattle.channel.specs.Stages.{took};

@@ -171,6 +171,7 @@ module _ (n : ℕ) (m : List ℕ) (at : ℕ) (st : State) (c : Call) (cs : List 
 
       no_fault : (k : ℕ) (why : Reason) → FirstFault n st (c ∷ []) (pdu ∷ []) k why → ⊥
       no_fault k why (here st1 c1 cs1 pdu1 pdus1 w1 e1 none1) = true_not_false (sym e1 ∙ none_is (holds n pdu [] (told st c).answer) none why)
+      no_fault _ why (later st1 c1 cs1 pdu1 pdus1 k1 w1 none1 f) = elim f [ ]
 
 -- ---- call after call
 

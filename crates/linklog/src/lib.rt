@@ -7,6 +7,8 @@
 //
 // Reading begins with `begin`. Each block of the log goes to `turn`, with the reader that came out before and a room: at its front then stand
 // the records that the block made whole, which `whole` takes apart. Any bytes are read: a bad block takes with it the records that touch it.
+#![tactic(auto)]
+
 ghost use Rattle.std.specs.Prelude.{◌≡◌, true, ◌++◌, ◌+◌, ◌-◌, ◌*◌, ◌≤◌, ◌<◌, length, take, drop};
 ghost use Rattle.lists.specs.Bytes.{laid};
 ghost use Rattle.blocks.specs.Block.{BLOCK, HEAD, PAYLOAD, block_of, used_in, place_in, may_begin};
@@ -42,14 +44,14 @@ pub const ROOM: usize = HELD_MAX as usize * BLOCK;
 const IN_HAND: usize = PAYLOAD + RECORD_MAX;
 
 // A log between two appends: how many blocks it has, and how many of them, the last ones in rising order, stand at the room's front.
-#[derive(Drop)]
+#[derive(Clone, Copy)]
 pub struct Log {
     pub blocks: u32,
     pub held: u32,
 }
 
 // What an append answers.
-#[derive(Drop)]
+#[derive(Clone, Copy)]
 pub enum Appended {
     // The log now. The blocks that the room holds are to be put to flash, in rising order.
     Put(Log),
@@ -57,7 +59,7 @@ pub enum Appended {
 }
 
 // Where the last whole record ends: in the last of so many blocks, behind so many bytes of its payload. With no block there is none.
-#[derive(Drop)]
+#[derive(Clone, Copy)]
 pub struct End {
     pub blocks: u32,
     pub used: u32,
@@ -65,7 +67,7 @@ pub struct End {
 
 // A reader between two blocks. At the room's front stand so many bytes of whole records, and behind them so many of one that isn't whole,
 // which counts only within a record: else reading looks for a block in which one begins.
-#[derive(Drop)]
+#[derive(Clone, Copy)]
 pub struct Reader {
     pub within: bool,
     pub whole: usize,
@@ -74,14 +76,14 @@ pub struct Reader {
 }
 
 // What a turn answers.
-#[derive(Drop)]
+#[derive(Clone, Copy)]
 pub enum Turned {
     Stands(Reader),
     Refused(Refusal),
 }
 
 // The first block that an append touches: its number, how many bytes of its payload are used, and where its first record begins then.
-#[derive(Drop)]
+#[derive(Clone, Copy)]
 struct First {
     number: u32,
     used: usize,

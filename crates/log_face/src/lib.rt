@@ -3,6 +3,8 @@
 // `dvc_log_append` and `dvc_log_close` take a log's number and the room, and give the log's next number. `dvc_log_take_up` gives the number
 // of a log that was stopped between two appends. `dvc_log_read` takes a reader's number, 0 before the first block, and gives the next; and
 // `dvc_log_take_back` takes a log back to where the last whole record ends that was read. A refusal's number comes below zero.
+#![tactic(auto)]
+
 ghost use Rattle.std.specs.Prelude.{◌≡◌, ◌<◌, ◌^◌};
 ghost use Rattle.linklog.specs.Records.{Received, Closed, record_of};
 ghost use Rattle.linklog.specs.Taking.{taken_up};

@@ -8,7 +8,6 @@ use native.Mathlib.Omega.{arith}
 use lib.Dec.{eqb}
 use lib.ListN.{length, take, drop, length-append, length-take, length-drop}
 use lib.Seq.{take_all, take-nil}
-use Rattle.lists.specs.Bytes.{laid}
 use Rattle.lists.proofs.Cases.{choice, true_not_false}
 use Rattle.lists.proofs.Laid.{front, length_laid}
 use Rattle.paper.specs.declared.Refusal.{Refusal}

@@ -18,7 +18,7 @@ use Rattle.logging.specs.Input.{input_whole}
 use Rattle.logging.specs.Writing.{Run, run_of, run_after, turned_to}
 use Rattle.logging.proofs.Inputs.{input_framing, logged_le}
 use Rattle.logging.proofs.Steps.{behind}
-use Rattle.logging.proofs.Fills.{soFar, so_far_le, fills}
+use Rattle.logging.proofs.Fills.{so_far, so_far_le, fills}
 
 -- a walk that has taken `at` bytes and laid `used` bytes, with its course and room now
 pub record Left (c : Course) (input room₀ out₀ room out : List ℕ) (next : Course) (at used : ℕ) : Type 0 where
@@ -28,7 +28,7 @@ pub record Left (c : Course) (input room₀ out₀ room out : List ℕ) (next : 
   pub so_far_law : out ≡ laid out₀ 0 text
   pub used_is : used ≡ length text
   pub long : length room ≡ length room₀
-  pub filled : PAYLOAD * used + BLOCK * soFar next.log room ≤ BLOCK * (soFar c.log room₀ + at)
+  pub filled : PAYLOAD * used + BLOCK * so_far next.log room ≤ BLOCK * (so_far c.log room₀ + at)
 
 -- it begins with nothing taken and nothing laid
 pub begins : (c : Course) (input room out : List ℕ) → Left c input room out room out c 0 0

@@ -7,6 +7,8 @@
 // Reading begins with `judge`, which refuses by its size a file that is no log (22). The log's blocks then go to `tell`, one by one with the
 // reader that came out before, at first `linklog::begin()`, and with its room; it lays the lines of the records that the block gives. Each takes
 // anything.
+#![tactic(auto)]
+
 ghost use Rattle.std.specs.Prelude.{◌≡◌, ◌+◌, ◌*◌, ◌≤◌, length, take, drop};
 ghost use Rattle.lists.specs.Bytes.{laid};
 ghost use Rattle.numbers.specs.Numbers.{value_at};
@@ -36,14 +38,14 @@ const TEXT_PER_BYTE: usize = 14;
 pub const SAID_MAX: usize = TEXT_PER_BYTE * ROOM;
 
 // How a log stands after the records so far: the log, and the number of the refusal that ended it, or 0.
-#[derive(Drop)]
+#[derive(Clone, Copy)]
 pub struct Course {
     pub log: Log,
     pub why: u8,
 }
 
 // Where writing stands between two reads: the course, how many bytes were left, and how many bytes of full blocks the last turn laid.
-#[derive(Drop)]
+#[derive(Clone, Copy)]
 pub struct Stand {
     pub course: Course,
     pub had: usize,
@@ -51,7 +53,7 @@ pub struct Stand {
 }
 
 // What a file is by its size.
-#[derive(Drop)]
+#[derive(Clone, Copy)]
 pub enum Judged {
     // A log of so many blocks.
     Blocks(u32),
@@ -61,7 +63,7 @@ pub enum Judged {
 
 // What a block gives: where the reader stands, how many bytes its records' lines have, and a refusal's number, or 0. A reader that `log`
 // gave for this room is never refused.
-#[derive(Drop)]
+#[derive(Clone, Copy)]
 pub struct Told {
     pub reader: Reader,
     pub laid: usize,
@@ -69,14 +71,14 @@ pub struct Told {
 }
 
 // What one record gives: the course, and how many bytes of full blocks it laid.
-#[derive(Drop)]
+#[derive(Clone, Copy)]
 struct Stepped {
     course: Course,
     laid: usize,
 }
 
 // What a walk through records gives: the course, how many bytes of the input it took, and how many bytes of full blocks it laid.
-#[derive(Drop)]
+#[derive(Clone, Copy)]
 struct Walked {
     course: Course,
     taken: usize,

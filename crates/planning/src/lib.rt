@@ -5,6 +5,8 @@
 // of them, where the file's length is not a multiple of eight or it has more than 65,536 sets. Once `is_over` says that it has more,
 // nothing that is still to be read matters. Nothing is kept but the course: the file may have any length. Each takes anything; only
 // `ending` refuses.
+#![tactic(auto)]
+
 ghost use Rattle.std.specs.Prelude.{◌≡◌, ◌*◌, ◌<◌, ◌≤◌, length};
 ghost use Rattle.paper.specs.Sizes.{SETS_MAX};
 ghost use Rattle.lists.specs.Bytes.{laid};
@@ -28,7 +30,7 @@ pub const FOUR_MAX: usize = 4 * FIELD_MAX;
 pub const LAST_MAX: usize = 5 + FOUR_MAX;
 
 // Each class's shares, added up.
-#[derive(Drop)]
+#[derive(Clone, Copy)]
 pub struct Sums {
     pub class0: u64,
     pub class1: u64,
@@ -38,14 +40,14 @@ pub struct Sums {
 
 // How a report stands after the sets so far: how many there are, of which any number behind the limit counts as one, and the sums of
 // those within it.
-#[derive(Drop)]
+#[derive(Clone, Copy)]
 pub struct Course {
     pub sets: u32,
     pub sums: Sums,
 }
 
 // Where a report stands between two reads: the course, how many bytes were left, and how many bytes of text the last turn laid.
-#[derive(Drop)]
+#[derive(Clone, Copy)]
 pub struct Stand {
     pub course: Course,
     pub had: usize,
@@ -53,7 +55,7 @@ pub struct Stand {
 }
 
 // What a report ends with.
-#[derive(Drop)]
+#[derive(Clone, Copy)]
 pub enum Last {
     // Each class's sum.
     Added(Sums),
@@ -62,14 +64,14 @@ pub enum Last {
 }
 
 // What one set gives: the course, and its line's length.
-#[derive(Drop)]
+#[derive(Clone, Copy)]
 struct Stepped {
     course: Course,
     laid: usize,
 }
 
 // What a walk through sets gives: the course, how many bytes of the input it took, and how many bytes of text it laid.
-#[derive(Drop)]
+#[derive(Clone, Copy)]
 struct Walked {
     course: Course,
     taken: usize,

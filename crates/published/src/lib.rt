@@ -4,6 +4,8 @@
 // `undefined`. It lays `256 agree`, or a line for each byte whose entry is another, and answers how many bytes that is; for any other file it
 // answers the first line that isn't as it should be, and leaves the buffer. `say` lays what is said then. `compare` takes any bytes, and needs
 // a buffer of `COMPARED_MAX`.
+#![tactic(auto)]
+
 ghost use Rattle.std.specs.Prelude.{◌≡◌, false, ◌+◌, ◌*◌, ◌≤◌, ◌<◌, length};
 ghost use Rattle.lists.specs.Bytes.{laid};
 ghost use Rattle.lists.specs.Lines.{lines_in};
@@ -30,7 +32,7 @@ pub const COMPARED_MAX: usize = BYTES * DIFFERENCE_MAX;
 pub const WRONG_MAX: usize = 12 + FIELD_MAX + 108;
 
 // What comes of a file.
-#[derive(Drop)]
+#[derive(Clone, Copy)]
 pub enum Compared {
     // What is printed stands at the front of the buffer, so many bytes.
     Text(usize),
@@ -41,7 +43,7 @@ pub enum Compared {
 }
 
 // What a line says of its byte.
-#[derive(Drop)]
+#[derive(Clone, Copy)]
 enum Claim {
     Point(u16),
     Undefined,

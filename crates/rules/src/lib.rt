@@ -2,6 +2,8 @@
 //
 // `first` says it, and `name` lays a rule's name as text. Both take anything, and neither refuses. A PDU that `receive` accepts
 // breaks no rule; one that it refuses breaks the rule whose number it answers, but for refusal 1, which is the call's.
+#![tactic(auto)]
+
 ghost use Rattle.std.specs.Prelude.{ℕ, ◌≤◌, ◌≡◌, true, List, length, drop};
 ghost use Rattle.paper.specs.Rows.{first_held, refused_with};
 ghost use Rattle.paper.specs.declared.Refusal.TheVariants.{BadField};

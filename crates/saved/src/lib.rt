@@ -4,6 +4,8 @@
 // the first; its number; its count. Behind the sixteen stand the level, or 0 while not ready, with the version that the shore
 // asked for and the end's mark, and the two totals. Any bytes of any length are taken. No table is built: what is judged,
 // looked for and changed is so in the bytes.
+#![tactic(auto)]
+
 ghost use Rattle.std.specs.Prelude.{◌≡◌, true, false, ◌&&◌, ◌||◌, ◌∷◌, [], ◌+◌, ◌*◌, ◌/◌, ◌%◌, ◌≤◌, ◌<◌, eqb, length, get_or, drop};
 ghost use Rattle.paper.specs.Sizes.{PARTS};
 ghost use Rattle.lists.specs.Bytes.{laid};

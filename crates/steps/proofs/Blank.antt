@@ -2,16 +2,16 @@
 -- Assumes nothing.
 use mathlib.Core.Path.{◌≡◌, refl, sym, ap, ◌∙◌}
 use mathlib.Core.Logic.{⊎_elim}
-use mathlib.Core.Bool.{true, false}
+use mathlib.Core.Bool.{false}
 use mathlib.Core.List.{List}
 use Prim.Native.Nat.{ℕ, ◌<◌}
-use lib.ListN.{length, get_or-replicate}
+use lib.ListN.{get_or-replicate}
 use Rattle.paper.specs.Sizes.{PARTS, PART}
 use Rattle.lists.specs.Bytes.{zeros}
 use Rattle.lists.proofs.Cases.{true_not_false}
 use Rattle.channel.specs.declared.Record.{Record}
 use Rattle.channel.specs.Channel.{View, Shut, Open, blank}
-use Rattle.table.specs.Table.{empty_table, number_place, free_place, record_at, with_record}
+use Rattle.table.specs.Table.{empty_table, number_place, free_place, record_at}
 use Rattle.table.proofs.Records.{at_any}
 use Rattle.table.proofs.Twice.{holds_says}
 use Rattle.connection.specs.States.{State, view, room_in, wrote, save, Steady}

@@ -2,12 +2,11 @@
 -- say, and every other channel is untouched.
 -- Assumes nothing.
 use mathlib.Core.Path.{◌≡◌, refl, sym, ap, ◌∙◌}
-use mathlib.Core.Bool.{Bool, false}
-use Prim.Native.Nat.{ℕ, ◌≤◌}
-use lib.Dec.{eqb}
+use mathlib.Core.Bool.{false}
+use Prim.Native.Nat.{ℕ}
 use borrow.Author.Tests.{eqb-false}
 use Rattle.paper.specs.declared.Refusal.{Refusal}
-use Rattle.channel.specs.Channel.{Act, Did, act}
+use Rattle.channel.specs.Channel.{Act}
 use Rattle.connection.specs.States.{State, view, room_in, save, Steady, FreePartsAreZero, FineAct}
 use Rattle.client.specs.Events.{Event, Unreadable, Capabilities, Of, is_of}
 use Rattle.client.specs.Client.{Stepped, finished, stepped}

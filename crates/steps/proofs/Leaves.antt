@@ -14,7 +14,7 @@ use lib.ListN.{length}
 use Rattle.paper.specs.Sizes.{PARTS, STORE, MESSAGE_MAX}
 use Rattle.paper.specs.Refusals.{refusal_number}
 use Rattle.paper.specs.declared.Refusal.{Refusal}
-use Rattle.paper.specs.declared.Refusal.TheVariants.{BadCall, CutShort, TooLong, NoCommand, BadField, BadList, WrongTime, NotOpen, AlreadyOpen, StillJoining, OverLimit, PastLength, IsSpoiled, NoStart, AllTaken, NotAwaited, NotSets, Loose, NoPartner, NoRoom}
+use Rattle.paper.specs.declared.Refusal.TheVariants.{BadCall, CutShort, TooLong, NoCommand, BadField, BadList, WrongTime, NotOpen, AlreadyOpen, StillJoining, OverLimit, PastLength, IsSpoiled, NoStart, AllTaken, NotAwaited, NotSets, Loose, NoPartner, NoRoom, LogFull, NotBlocks}
 use Rattle.lists.specs.Bytes.{laid, zeros}
 use Rattle.lists.proofs.Cases.{choice, and_false, true_not_false}
 use Rattle.reading.specs.Reading.{read_pdu}
@@ -113,6 +113,8 @@ of_reading NotSets h = absurd h
 of_reading Loose h = absurd h
 of_reading NoPartner h = absurd h
 of_reading NoRoom h = absurd h
+of_reading LogFull h = absurd h
+of_reading NotBlocks h = absurd h
 
 -- ---- what the rules of one channel leave where they refuse
 

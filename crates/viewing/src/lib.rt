@@ -5,6 +5,8 @@
 // that there can be, `LINES_MAX` or more than `TEXT_MAX` bytes; whatever it doesn't answer with a length leaves the buffer as it was.
 // `line_at` gives the verdict on the line at a place of a text and where the next begins, and `say` lays what is said of one that is left
 // out. `asked` tells which of the two a word asks for.
+#![tactic(auto)]
+
 ghost use Rattle.std.specs.Prelude.{◌≡◌, true, ◌+◌, ◌*◌, ◌≤◌, ◌<◌, length};
 ghost use Rattle.lists.specs.Bytes.{laid};
 ghost use Rattle.lists.specs.Lines.{lines_in};
@@ -32,7 +34,7 @@ pub const SAY_MAX: usize = 26 + FIELD_MAX + REFUSED_MAX;
 const LF: u8 = b'\n';
 
 // What is asked for.
-#[derive(Drop)]
+#[derive(Clone, Copy)]
 pub enum Way {
     // A list as lines of UTF-8.
     ToUtf8,
@@ -42,7 +44,7 @@ pub enum Way {
 }
 
 // What comes of a list.
-#[derive(Drop)]
+#[derive(Clone, Copy)]
 pub enum Shown {
     // Its lines stand at the front of the buffer, so many bytes.
     Lines(usize),
@@ -53,7 +55,7 @@ pub enum Shown {
 }
 
 // What comes of a text.
-#[derive(Drop)]
+#[derive(Clone, Copy)]
 pub enum Gathered {
     // Its list stands at the front of the buffer, so many bytes.
     Bytes(usize),
@@ -64,7 +66,7 @@ pub enum Gathered {
 }
 
 // Whether a line is a name of the list, or why it is left out.
-#[derive(Drop)]
+#[derive(Clone, Copy)]
 pub enum Verdict {
     Kept,
     Empty,
@@ -74,7 +76,7 @@ pub enum Verdict {
 }
 
 // A line of a text.
-#[derive(Drop)]
+#[derive(Clone, Copy)]
 pub struct Line {
     pub verdict: Verdict,
     // Where the next line begins.

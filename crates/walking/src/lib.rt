@@ -5,6 +5,8 @@
 // taken on by `turn`: the caller lends it the input that is there, what was left and behind it what was read, and gets
 // the text to write, with what is left of the input at its buffer's front. Where the walk waits for a read the caller
 // reads, and a turn with nothing new is the end of the input. Both take anything, and neither refuses.
+#![tactic(auto)]
+
 ghost use Rattle.std.specs.Prelude.{◌≡◌, ℕ, ◌≤◌, List, length};
 ghost use Rattle.lists.specs.Bytes.{laid};
 ghost use Rattle.lines.specs.Lines.{LINE_MAX};

@@ -1,6 +1,5 @@
 -- `cutting::cut` meets its contract: its refusals are in the definition's order, and at a start the PDU is laid.
 use mathlib.Core.Path.{sym, ◌∙◌}
-use borrow.Author.Tests.{not-false}
 use lib.ListN.{length}
 use Rattle.paper.specs.Sizes.{PDU_MAX, MESSAGE_MAX}
 use Rattle.cutting.proofs.Starts.{start_within}

@@ -1,5 +1,4 @@
 use mathlib.Core.Path.{refl, sym, ◌∙◌}
-use mathlib.Core.Logic.{⊎_elim}
 use lib.ListN.{length-set}
 use Rattle.lists.specs.Bytes.{zeros}
 use Rattle.lists.proofs.Laid.{laid_turn, laid_rest, laid_past}

@@ -6,9 +6,6 @@ use Rattle.table.specs.Totals.{opens}
 use Rattle.table.proofs.Recount.{total_on, total_end, opens_most}
 use borrow.Author.Rules.{rules}
 use native.Mathlib.Omega.{arith}
-use Rattle.table.proofs.count.Reads as reads
-use Rattle.table.proofs.count.Lts as lts
-use Rattle.table.proofs.opens.Reads as opens-reads
 use Rattle.table.proofs.count.Goals as goal
 
 pub loop-i-init : goal.loop-i-init

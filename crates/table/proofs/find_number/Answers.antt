@@ -3,7 +3,7 @@ use Rattle.paper.specs.Sizes.{PARTS}
 use Rattle.lists.proofs.Places.{search_hit, search_miss, search_end}
 use Rattle.lists.proofs.Arrays.{length_mapped}
 use Rattle.channel.specs.Channel.{blank}
-use Rattle.table.specs.Table.{holds, number_place, record_at}
+use Rattle.table.specs.Table.{number_place, record_at}
 use Rattle.table.proofs.Records.{found_none, found_there}
 use borrow.Author.Rules.{rules}
 use native.Mathlib.Omega.{arith}

@@ -3,7 +3,6 @@ use Rattle.paper.specs.Sizes.{PARTS}
 use Rattle.lists.proofs.Places.{search_hit, search_miss, search_end}
 use Rattle.lists.proofs.Arrays.{length_mapped}
 use Rattle.channel.specs.Channel.{blank}
-use Rattle.table.specs.Totals.{is_open}
 use Rattle.table.specs.Table.{open_place, record_at}
 use Rattle.table.proofs.Records.{open_none, open_there}
 use borrow.Author.Rules.{rules}

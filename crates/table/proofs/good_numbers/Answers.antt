@@ -1,11 +1,6 @@
 -- `table::good_numbers` meets its contract: where marks don't decide, the pairs and a count do.
 use mathlib.Core.Path.{sym, ◌∙◌}
 use borrow.Author.Tests.{eq-eqb}
-use Rattle.table.proofs.good_numbers.Reads as reads
-use Rattle.table.proofs.good_numbers.Lts as lts
-use Rattle.table.proofs.count.Reads as count-reads
-use Rattle.table.proofs.marks_apart.Reads as marks-apart-reads
-use Rattle.table.proofs.pairs_apart.Reads as pairs-apart-reads
 use Rattle.table.proofs.good_numbers.Goals as goal
 
 pub returns-then-marks_apart : goal.returns-then-marks_apart

@@ -1,9 +1,8 @@
 use mathlib.Core.Path.{◌≡◌, refl, sym, ◌∙◌}
 use mathlib.Core.Bool.{Bool, true, false}
-use mathlib.Core.Logic.{⊎_elim}
 use Prim.Native.Nat.{◌≤◌, ◌<◌}
 use lib.ListN.{get_or}
-use borrow.Author.Tests.{le-leb, lt-leb, not-false}
+use borrow.Author.Tests.{le-leb, lt-leb}
 use lib.Dec.{leb}
 use Rattle.paper.specs.Sizes.{PARTS}
 use Rattle.lists.proofs.Arrays.{length_mapped}
@@ -14,8 +13,6 @@ use Rattle.table.specs.Sound.{good_seat}
 use Rattle.table.proofs.Every.{every_not, every_on, every_end}
 use borrow.Author.Rules.{rules}
 use native.Mathlib.Omega.{arith}
-use Rattle.table.proofs.good_seats.Reads as reads
-use Rattle.table.proofs.good_seats.Lts as lts
 use Rattle.table.proofs.good_seats.Goals as goal
 use Rattle.table.proofs.good_seats.Goals.{then-record+else-not-table, else-record}
 
@@ -77,8 +74,8 @@ loop-i-preserved c = let l = c.loop-i in
     let r = get_or t.records l.i blank in
     let class : r.class ≤ 3 = omega (arith, c.if-record-gt3.false) in
     let good : good_seat t.ready r ≡ true = elim c.if-record.branch [
-      then-record+else-not-table w ↦ open_good t.ready r class w.if-not-table.false
-    | else-record w ↦ free_good t.ready r class w.if-record.false
+      | then-record+else-not-table w ↦ open_good t.ready r class w.if-not-table.false
+      | else-record w ↦ free_good t.ready r class w.if-record.false
     ] in
     (l.invariant.0, l.invariant.1 ∙ every_on _ _ l.i blank (omega arith) good)
 

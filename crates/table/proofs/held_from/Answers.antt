@@ -1,7 +1,6 @@
 use mathlib.Core.Path.{refl, sym, ◌∙◌}
 use Rattle.paper.specs.Sizes.{PARTS}
 use Rattle.channel.specs.Channel.{blank}
-use Rattle.table.specs.Table.{holds}
 use Rattle.table.proofs.Every.{some_here, some_on, some_end}
 use Rattle.lists.proofs.Arrays.{length_mapped}
 use borrow.Author.Rules.{rules}

@@ -1,6 +1,5 @@
 use mathlib.Core.Path.{◌≡◌, refl, sym, ◌∙◌}
 use mathlib.Core.Bool.{true, false}
-use mathlib.Core.Logic.{⊎_elim}
 use Prim.Native.Nat.{ℕ, ◌+◌, ◌≤◌, ◌<◌}
 use lib.ListN.{get_or}
 use Rattle.paper.specs.Sizes.{PARTS, MESSAGE_MAX}
@@ -17,8 +16,6 @@ use Rattle.table.proofs.Every.{every_not, every_on, every_end}
 use Rattle.table.proofs.Recount.{total_on, total_end, awaits_most, idle_adds, spoiled_adds, joining_adds, not_open_joining_adds, counts_open}
 use borrow.Author.Rules.{rules}
 use native.Mathlib.Omega.{arith}
-use Rattle.table.proofs.stages.Reads as reads
-use Rattle.table.proofs.stages.Lts as lts
 use Rattle.table.proofs.stages.Goals as goal
 use Rattle.table.proofs.stages.Goals.{in-Idle, in-Joining+else-wanted-held+else-wanted-gt-MESSAGE_MAX+then-counts, in-Joining+else-wanted-held+else-wanted-gt-MESSAGE_MAX+else-counts, in-Spoiled}
 
@@ -78,16 +75,16 @@ loop-i-preserved c = let l = c.loop-i in
     let is_it = sym (counts_open rs c.args.marked c.requires l.i) in
     let adds : (good_stage r.stage ≡ true) × (c.match-stage.awaited ≡ l.awaited + awaits r) =
     elim c.match-stage.branch [
-      in-Idle w ↦ let a = idle_adds r w.in-Idle.is in (a.0, omega (arith, a.1, w.awaited-is))
-    | in-Joining+else-wanted-held+else-wanted-gt-MESSAGE_MAX+then-counts w ↦
-      let a = joining_adds r _ _ w.in-Joining.is (omega (arith, w.if-wanted-held.false)) (omega (arith, w.if-wanted-gt-MESSAGE_MAX.false))
-      (is_it ∙ sym w.counts.ensures ∙ w.if-counts.true) in
-      (a.0, omega (arith, a.1, w.awaited-is))
-    | in-Joining+else-wanted-held+else-wanted-gt-MESSAGE_MAX+else-counts w ↦
-      let a = not_open_joining_adds r _ _ w.in-Joining.is (omega (arith, w.if-wanted-held.false)) (omega (arith, w.if-wanted-gt-MESSAGE_MAX.false))
-      (is_it ∙ sym w.counts.ensures ∙ w.if-counts.false) in
-      (a.0, omega (arith, a.1, w.awaited-is))
-    | in-Spoiled w ↦ let a = spoiled_adds r w.in-Spoiled.is in (a.0, omega (arith, a.1, w.awaited-is))
+      | in-Idle w ↦ let a = idle_adds r w.in-Idle.is in (a.0, omega (arith, a.1, w.awaited-is))
+      | in-Joining+else-wanted-held+else-wanted-gt-MESSAGE_MAX+then-counts w ↦
+          let a = joining_adds r _ _ w.in-Joining.is (omega (arith, w.if-wanted-held.false)) (omega (arith, w.if-wanted-gt-MESSAGE_MAX.false))
+          (is_it ∙ sym w.counts.ensures ∙ w.if-counts.true) in
+          (a.0, omega (arith, a.1, w.awaited-is))
+      | in-Joining+else-wanted-held+else-wanted-gt-MESSAGE_MAX+else-counts w ↦
+          let a = not_open_joining_adds r _ _ w.in-Joining.is (omega (arith, w.if-wanted-held.false)) (omega (arith, w.if-wanted-gt-MESSAGE_MAX.false))
+          (is_it ∙ sym w.counts.ensures ∙ w.if-counts.false) in
+          (a.0, omega (arith, a.1, w.awaited-is))
+      | in-Spoiled w ↦ let a = spoiled_adds r w.in-Spoiled.is in (a.0, omega (arith, a.1, w.awaited-is))
     ] in (
       l.invariant.0,
       l.invariant.1 ∙ every_on is_staged rs l.i blank (omega arith) adds.0,
