@@ -3,25 +3,24 @@
 use mathlib.Core.Path.{◌≡◌, refl, sym, ap, ◌∙◌}
 use mathlib.Core.Bool.{Bool, true, false, not, cond, ◌&&◌, ◌||◌}
 use mathlib.Core.List.{List, []}
-use Prim.Native.Nat.{ℕ, ◌≤◌, ◌<◌, ◌%◌}
+use Prim.Native.Nat.{ℕ, ◌<◌}
 use native.Mathlib.Nat.{mod-lt}
 use native.Mathlib.Omega.{arith}
 use borrow.Author.Tests.{eqb-true, eq-eqb, ne_eqb, not-false}
 use lib.Dec.{eqb, ltb, lit<}
 use lib.ListN.{length}
-use Rattle.paper.specs.Sizes.{PARTS, STORE, REPLY_MIN}
+use Rattle.paper.specs.Sizes.{STORE, REPLY_MIN}
 use Rattle.paper.specs.declared.Refusal.TheVariants.{BadCall}
 use Rattle.lists.specs.Bytes.{laid}
 use Rattle.lists.proofs.Cases.{both, neither, choice, and_false}
 use Rattle.numbers.specs.Numbers.{Bytes}
 use Rattle.channel.specs.declared.Record.{Record}
-use Rattle.channel.specs.declared.Concern.TheVariants.{NoChannel}
 use Rattle.channel.specs.declared.Answer.{Answer}
 use Rattle.channel.specs.Answers.{concern_of}
 use Rattle.deciding.specs.declared.Matter.{Matter}
 use Rattle.deciding.specs.declared.Matter.TheVariants.{Unread, Caps, Asks}
 use Rattle.deciding.specs.declared.Decided.{Decided}
-use Rattle.deciding.specs.Deciding.{level_for, taking, refusing, readying, decided_of}
+use Rattle.deciding.specs.Deciding.{level_for, refusing, readying, decided_of}
 use Rattle.table.specs.declared.Table.{Table}
 use Rattle.table.specs.Table.{empty_table}
 use Rattle.table.specs.Sound.{sound_table}
@@ -37,7 +36,7 @@ use Rattle.client.specs.Client.{Stepped, Whole, place_if, refused, stepped, bad_
 use Rattle.client.proofs.Asking.{event_asked_law, event_closing}
 use Rattle.client.proofs.Calls.{refuses, passes}
 use Rattle.saved.specs.Saved.{STATE, CLIENT, saved, table_in, asked_in, unasked, is_saved, is_state, is_good}
-use Rattle.saved.proofs.Back.{told_saved, good_saved}
+use Rattle.saved.proofs.Back.{told_saved}
 use Rattle.packing.specs.Packing.{answer_place, packed_answer, packed_for}
 use Rattle.packing.proofs.Own.{own, decided_own, decided_place}
 use Rattle.client_face.specs.Face.{Faced, no_state, faced, dvc_received, dvc_closed, asked_by, bad_face, Gives, faces, begins}

@@ -1,5 +1,5 @@
 -- The client end as a host in C calls it: the table in bytes that the host lends, the answer in one number.
-use Rattle.std.specs.Prelude.{ℕ, ◌≡◌, Bool, true, false, cond, not, ◌&&◌, ◌||◌, List, [], eqb, ltb, length}
+use Rattle.std.specs.Prelude.{ℕ, Bool, true, false, cond, not, ◌&&◌, ◌||◌, List, eqb, ltb, length}
 use Rattle.paper.specs.Sizes.{PARTS, STORE, REPLY_MIN}
 use Rattle.paper.specs.declared.Refusal.TheVariants.{BadCall}
 use Rattle.lists.specs.Bytes.{laid}

@@ -6,6 +6,8 @@
 //
 // Both calls come to one place, `call`. What is called from one place alone is compiled into it; so is all that a call does,
 // since the ends have an archive each and share nothing in it.
+#![tactic(auto)]
+
 ghost use Rattle.std.specs.Prelude.{◌≡◌, true, false, length};
 ghost use Rattle.paper.specs.Sizes.{STORE};
 ghost use Rattle.connection.specs.States.{state_of};

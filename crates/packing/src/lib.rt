@@ -2,6 +2,8 @@
 //
 // specs/Packing says which bits are what. An answer is packed in one match: where the parts were found one by one, each would
 // be carried to the end of every case, some 100 instructions a call.
+#![tactic(auto)]
+
 ghost use Rattle.std.specs.Prelude.{◌≡◌, ◌<◌};
 ghost use Rattle.paper.specs.Refusals.{refusal_number};
 ghost use Rattle.channel.specs.Answers.{decline_number};

@@ -2,6 +2,8 @@
 //
 // The host lends what it keeps in bytes (`saved`), the store and the buffers, and gets the answer in one number (`packing`). No
 // table is built: the state is judged, searched and changed in its bytes. What is decided of what was found is `shore::decide`.
+#![tactic(auto)]
+
 ghost use Rattle.std.specs.Prelude.{◌≡◌, true, length};
 ghost use Rattle.paper.specs.Sizes.{PARTS, STORE};
 ghost use Rattle.channel.specs.declared.Concern.TheVariants.{NoChannel};

@@ -1,4 +1,6 @@
 // What a host in C asks of a state of either end, lent to be read: the totals, and a channel's count of messages.
+#![tactic(auto)]
+
 ghost use Rattle.std.specs.Prelude.{◌≡◌, true, false, ◌||◌};
 ghost use Rattle.paper.specs.Sizes.{PARTS};
 ghost use Rattle.saved.specs.Saved.{CLIENT, SHORE, is_good};

@@ -1,0 +1,14 @@
+-- `shore_face::least_number` meets its contract: each number before this one has a record.
+use mathlib.Core.Path.{◌≡◌}
+use Prim.Native.Nat.{◌+◌, ◌≤◌}
+use Rattle.paper.specs.Sizes.{PARTS}
+use Rattle.shore.specs.Numbers.{least_from, least_number}
+use Rattle.shore.proofs.Least.{left}
+use Rattle.saved.specs.Saved.{table_in}
+use Rattle.shore_face.proofs.least_number.Given as goal
+
+abbrev pub invariant-loop-number : goal.invariant-loop-number
+invariant-loop-number l = (l.number ≤ PARTS + 1) × (least_from (left l.number) l.number (table_in l.state) ≡ least_number (table_in l.state))
+
+abbrev pub decreases-loop-number : goal.decreases-loop-number
+decreases-loop-number l = left l.number
