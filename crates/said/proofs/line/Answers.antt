@@ -13,7 +13,8 @@ overflow_add-result c = omega (arith, c.word.ensures.value.1, c.text-end.ensures
 
 pub returns : goal.returns
 unfolding line_of word_of zeros PDU_MAX
-returns c = let a = c.args in
+returns c =
+    let a = c.args in
     let read = c.read-read.ensures in
     let front = text_of (said a.pdu.now c.read-read.result) in
     let back = word_for c.again-answer.result c.again-answer.new.out a.pdu.now in

@@ -7,6 +7,7 @@ use Rattle.listeners.proofs.Matches.{compared}
 use Rattle.said.proofs.same.Goals as goal
 
 pub returns : goal.returns
-returns c = let a = c.args in
+returns c =
+    let a = c.args in
     let first = ap (λ (k : ℕ). take k a.buffer.now) c.lesser-end.ensures ∙ take_least a.n a.buffer.now in
     rw (← first) (compared _ _ _ c.same.ensures.0 c.same.ensures.1)

@@ -19,7 +19,8 @@ pub overflow_add-end : goal.overflow_add-end
 overflow_add-end c = omega (arith, c.field-end.ensures.value.1)
 
 pub loop-i-preserved : goal.loop-i-preserved
-loop-i-preserved c = let numbers = c.args.numbers in
+loop-i-preserved c =
+    let numbers = c.args.numbers in
     let new = c.field-end.ensures in
     let front = spelled_out (take c.loop-i.i numbers) in
     let one = field (get_or numbers c.loop-i.i 0) SPACE in
@@ -31,5 +32,6 @@ loop-i-preserved c = let numbers = c.args.numbers in
     )
 
 pub returns : goal.returns
-returns c = let end : c.loop-i.i ≡ c.args.count = omega arith in
+returns c =
+    let end : c.loop-i.i ≡ c.args.count = omega arith in
     rw (← end) (record { value = (c.loop-i.invariant.2, omega arith); out_after = c.loop-i.invariant.3 })

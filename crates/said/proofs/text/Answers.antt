@@ -12,12 +12,14 @@ use native.Mathlib.Omega.{arith}
 use Rattle.said.proofs.text.Goals as goal
 
 pub spelled-spelled-requires : goal.spelled-spelled-requires
-spelled-spelled-requires c = let a = c.args in
+spelled-spelled-requires c =
+    let a = c.args in
     rw c.row-row.ensures (row_says a.pdu.now a.read).2
 
 pub returns : goal.returns
 unfolding text_of
-returns c = let a = c.args in
+returns c =
+    let a = c.args in
     let says = said a.pdu.now a.read in
     let numbers : take c.row-row.result.count c.row-row.result.numbers ≡ numbers_in says =
     rw c.row-row.ensures (row_says a.pdu.now a.read).0 in
