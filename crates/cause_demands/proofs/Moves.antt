@@ -31,7 +31,7 @@ use Rattle.table.proofs.Twice.{holds_says}
 use Rattle.connection.specs.States.{State, view, room_in, wrote, save, Steady, FineAct}
 use Rattle.connection.proofs.Frame.{Fits, room_for_law, there_is, opened, shut_past}
 use Rattle.client.specs.Events.{Event, Unreadable, Capabilities, Of, is_of}
-use Rattle.client.specs.Client.{refused, readied, stepped}
+use Rattle.client.specs.Client.{readied, stepped}
 use Rattle.client.proofs.Steps.{too_early, too_late, made_ready}
 use Rattle.steps.specs.Rows.{is_spoiled}
 use Rattle.steps.specs.Refused.{is_of_three, is_of_reading}

@@ -1,7 +1,7 @@
 -- What the rules do, told with no bytes in hand: what becomes of the record and of the part, the answer, and what is sent.
 -- Nobody need believe this page: `turn_rules` of proofs/Turns shows that each turn tells what `act` does, on any bytes of
 -- the part and of the block.
-use Rattle.std.specs.Prelude.{ℕ, ◌≡◌, Bool, true, false, not, cond, List, [], ℤ}
+use Rattle.std.specs.Prelude.{ℕ, Bool, not, cond, List, [], ℤ}
 use Rattle.paper.specs.Sizes.{PART}
 use Rattle.paper.specs.Statuses.{OPENED, UNLISTED, FULL}
 use Rattle.paper.specs.declared.Refusal.{Refusal}

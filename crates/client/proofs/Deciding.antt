@@ -1,7 +1,7 @@
 -- What was decided of what was found, put back, is the step.
 -- Assumes nothing.
 use mathlib.Core.Path.{◌≡◌, refl, sym, ap, ◌∙◌}
-use mathlib.Core.Bool.{Bool, true, false, cond, ◌&&◌}
+use mathlib.Core.Bool.{Bool, true, false, ◌&&◌}
 use mathlib.Core.List.{List}
 use mathlib.Core.Logic.{⊎_elim}
 use Prim.Native.Nat.{ℕ, ◌≤◌, ◌<◌}
@@ -13,7 +13,6 @@ use Rattle.paper.specs.declared.Refusal.TheVariants.{WrongTime}
 use Rattle.lists.specs.Bytes.{laid}
 use Rattle.lists.proofs.Cases.{and_true, and_false, lt_or_le}
 use Rattle.channel.specs.declared.Record.{Record}
-use Rattle.channel.specs.declared.Concern.{Concern}
 use Rattle.channel.specs.declared.Concern.TheVariants.{NoChannel, Channel}
 use Rattle.channel.specs.declared.Ask.{Ask}
 use Rattle.channel.specs.declared.Ask.TheVariants.{NoList, Name, Block, End}
@@ -38,7 +37,7 @@ use Rattle.connection.proofs.Places.{own_number, number_after}
 use Rattle.client.specs.declared.Received.{Received}
 use Rattle.client.specs.Events.{Capabilities, Of}
 use Rattle.client.specs.Asking.{told}
-use Rattle.client.specs.Client.{Stepped, refused, finished, readied, stepped, place_for, place_if, result_of, Gives}
+use Rattle.client.specs.Client.{Stepped, refused, finished, readied, stepped, place_for, place_if, Gives}
 use Rattle.client.proofs.Steps.{in_time, too_early, garbled_shut, too_late, made_ready}
 
 -- what the rules did, put back

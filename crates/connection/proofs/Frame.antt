@@ -1,7 +1,7 @@
 -- An event of one channel moves that channel's view and no other view, and leaves a steady state steady.
 -- Assumes nothing.
 use mathlib.Core.Path.{◌≡◌, refl, sym, ap, ◌∙◌}
-use mathlib.Core.Logic.{◌≢◌, ◌⊎◌, ⊎_elim}
+use mathlib.Core.Logic.{◌≢◌, ⊎_elim}
 use mathlib.Core.Bool.{Bool, true, false, cond}
 use mathlib.Core.List.{List}
 use Prim.Native.Nat.{ℕ, ◌+◌, ◌*◌, ◌≤◌, ◌<◌}
@@ -18,7 +18,7 @@ use Rattle.channel.specs.declared.Record.{Record}
 use Rattle.channel.specs.Channel.{blank, View, Shut, Open, Room, NoRoom, Spare}
 use Rattle.table.specs.declared.Table.{Table}
 use Rattle.table.specs.Table.{holds, number_place, free_place, record_at, with_record}
-use Rattle.table.specs.Sound.{good_stage, sound_table}
+use Rattle.table.specs.Sound.{good_stage}
 use Rattle.table.proofs.Twice.{holds_says, holds_none}
 use Rattle.table.proofs.Records.{at_same, at_other, at_any, number_holds, number_none, none_number, free_at}
 use Rattle.table.proofs.Soundness.{sound_says, sound_with, number_only}

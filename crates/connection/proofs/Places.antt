@@ -6,7 +6,7 @@ use mathlib.Core.Bool.{Bool, true, false, cond}
 use mathlib.Core.Logic.{⊎_elim}
 use Prim.Native.Nat.{ℕ, ◌≤◌, ◌<◌}
 use native.Mathlib.Omega.{arith}
-use borrow.Author.Tests.{lt-ltb, le-ltb, ltb-true}
+use borrow.Author.Tests.{lt-ltb, ltb-true}
 use lib.Dec.{ltb}
 use lib.ListN.{length, length-set}
 use Rattle.paper.specs.Sizes.{PARTS}
@@ -18,7 +18,7 @@ use Rattle.channel.specs.declared.Change.TheVariants.{Stays, Becomes, Frees}
 use Rattle.channel.specs.Channel.{blank}
 use Rattle.channel.proofs.Turns.{Rightly}
 use Rattle.table.specs.declared.Table.{Table}
-use Rattle.table.specs.Table.{holds, number_place, free_place, record_at, placed, with_record, home_place, site_of, next_of, put_back}
+use Rattle.table.specs.Table.{holds, number_place, record_at, placed, with_record, home_place, site_of, next_of, put_back}
 use Rattle.table.specs.Sound.{sound_table}
 use Rattle.table.proofs.Records.{with_past, at_same, at_any, number_holds, number_none, none_number}
 use Rattle.table.proofs.Twice.{holds_says, holds_own, holds_none}

@@ -1,7 +1,7 @@
 -- What a turn says, put back where the channel was found, is what the rules make of the channel's view, saved.
 -- Assumes nothing.
 use mathlib.Core.Path.{◌≡◌, refl, sym, ap, subst, ◌∙◌}
-use mathlib.Core.Bool.{Bool, true, false, cond}
+use mathlib.Core.Bool.{Bool, true, false}
 use mathlib.Core.List.{List}
 use mathlib.Core.Logic.{⊎_elim}
 use Prim.Native.Nat.{ℕ, ◌≤◌, ◌<◌}
@@ -10,9 +10,8 @@ use borrow.Author.Tests.{lt-ltb, le-ltb}
 use lib.Dec.{ltb}
 use lib.ListN.{length}
 use lib.Seq.{get_or-set_same}
-use Rattle.paper.specs.Sizes.{PART, PARTS, STORE}
+use Rattle.paper.specs.Sizes.{PARTS, STORE}
 use Rattle.paper.specs.declared.Refusal.{Refusal}
-use Rattle.lists.specs.Bytes.{zeros}
 use Rattle.lists.proofs.Cases.{lt_or_le, true_not_false}
 use Rattle.channel.specs.declared.Record.{Record}
 use Rattle.channel.specs.declared.Answer.{Answer}
@@ -23,7 +22,7 @@ use Rattle.channel.specs.declared.Part.{Part}
 use Rattle.channel.specs.declared.Part.TheVariants.{Keeps, Takes, Clears}
 use Rattle.channel.specs.declared.Turn.{Turn}
 use Rattle.channel.specs.Channel.{blank, Act, BadCreate, Create, Bring, Garbled, Closing, LocalClose, View, Shut, Open, Room}
-use Rattle.channel.specs.Channel.{NoRoom, Spare, Did, act, opening}
+use Rattle.channel.specs.Channel.{NoRoom, Did, act, opening}
 use Rattle.channel.specs.Turns.{garbling, turn_of, view_of, room_of, act_of, part_told, reply_told}
 use Rattle.channel.proofs.Turns.{Comes, Tells, turn_rules, garbles_rules, view_open as seen_open}
 use Rattle.table.specs.declared.Table.{Table}
@@ -32,9 +31,9 @@ use Rattle.table.specs.Totals.{opens, awaits, changed}
 use Rattle.table.proofs.Records.{placed_past, at_past, number_holds, free_at}
 use Rattle.table.proofs.Recount.{changed_alike, opens_none, awaits_none}
 use Rattle.table.proofs.Twice.{holds_says}
-use Rattle.store.specs.Parts.{part, with_part, block_put, part_cleared}
+use Rattle.store.specs.Parts.{part, with_part}
 use Rattle.store.proofs.Parts.{there, put_there, cleared_there}
-use Rattle.connection.specs.States.{State, state_of, view, view_at, room_at, room_in, wrote, save, kept}
+use Rattle.connection.specs.States.{State, state_of, view, room_at, room_in, wrote, save, kept}
 use Rattle.connection.proofs.Views.{view_shut, view_open, room_none, own_part, wrote_own}
 
 -- ---- what `act` makes of a channel doesn't hang on the room, where it is open; and with no room none is opened

@@ -11,17 +11,7 @@ use Rattle.paper.specs.Rows.{fine, refused_with, first_held, comes_to}
 use Rattle.paper.specs.declared.Refusal.{Refusal}
 use Rattle.paper.specs.declared.Refusal.TheVariants.{BadCall, OverLimit, NoStart}
 use Rattle.laying.specs.Laying.{buffer_after}
-use Rattle.cutting.specs.Cutting.{
-  block_end,
-  is_start,
-  cut_pdu,
-  cut_at,
-  cut_buffer,
-  Lengths,
-  lengths_at,
-  outcome,
-  cutting_rows,
-}
+use Rattle.cutting.specs.Cutting.{block_end, is_start, cut_pdu, cut_at, cut_buffer, lengths_at, outcome, cutting_rows}
 use Rattle.cutting.specs.declared.Piece.{Piece}
 use Rattle.cutting.specs.declared.Piece.TheVariants.{Pdu, Refused}
 

@@ -15,9 +15,8 @@ use Rattle.numbers.specs.Numbers.{NUMBERS, width_of}
 use Rattle.numbers.proofs.Widths.{narrowest_le}
 use Rattle.reading.specs.Reading.{read_pdu}
 use Rattle.reading.specs.declared.Charges.{Charges}
-use Rattle.reading.specs.declared.Pdu.TheVariants.{Data, Close}
 use Rattle.reading.specs.Grammar.{Value, create_request_law, create_response_law, data_first_law, data_block, close}
-use Rattle.reading.specs.Grammar.{capabilities_request, capabilities_response, values, Encodes}
+use Rattle.reading.specs.Grammar.{capabilities_request, capabilities_response, Encodes}
 use Rattle.reading.specs.Grammar.{InWidth, SmallCharges}
 use Rattle.reading.specs.Grammar.{create_request_is, create_response_is, data_first_is, data_is, close_is}
 use Rattle.reading.specs.Grammar.{capabilities_1_is, capabilities_is, capabilities_response_is}

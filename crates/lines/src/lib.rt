@@ -177,24 +177,25 @@ pub fn hex_byte(byte: u8) -> [u8; 2]
 
 // The digits of bytes, from a place on. Answers how many there are.
 fn hex(out: &mut [u8], at: usize, bytes: &[u8]) -> usize
-    requires { (at ≤ length out.old) × (length bytes.now ≤ MESSAGE_MAX) }
+    requires { length bytes.now ≤ MESSAGE_MAX }
     ensures value { (result ≡ length (hex_of bytes.now)) × (result ≤ 2 * MESSAGE_MAX) }
     ensures out_after { out.new ≡ laid out.old at (hex_of bytes.now) }
 {
+    let from = lists::lesser(at, out.len());
     let mut i = 0;
-    let mut end = at;
+    let mut end = from;
     while i < bytes.len() {
         let digits = hex_byte(bytes[i]);
         lists::copy_at(out, end, &digits);
         end += 2;
         i += 1;
     }
-    end - at
+    end - from
 }
 
-// Bytes as they are lent, from a place on: `-` for none.
-fn lent_bytes(out: &mut [u8], at: usize, bytes: &[u8]) -> usize
-    requires { (at ≤ length out.old) × (length bytes.now ≤ MESSAGE_MAX) }
+// The bytes of a message, from a place on: `-` for none.
+fn message_bytes(out: &mut [u8], at: usize, bytes: &[u8]) -> usize
+    requires { length bytes.now ≤ MESSAGE_MAX }
     ensures value { (result ≡ length (bytes_field bytes.now)) × (result ≤ 2 * MESSAGE_MAX) }
     ensures out_after { out.new ≡ laid out.old at (bytes_field bytes.now) }
 {
@@ -209,9 +210,8 @@ pub fn bytes_field(out: &mut [u8], at: usize, bytes: &[u8]) -> usize
     ensures value { (result ≡ length (bytes_field (take MESSAGE_MAX bytes.now))) × (result ≤ 2 * MESSAGE_MAX) }
     ensures out_after { out.new ≡ laid out.old at (bytes_field (take MESSAGE_MAX bytes.now)) }
 {
-    let from = lists::lesser(at, out.len());
     let n = lists::lesser(MESSAGE_MAX, bytes.len());
-    lent_bytes(out, from, &bytes[..n])
+    message_bytes(out, at, &bytes[..n])
 }
 
 // The line of a message handed up: the place of the record that brought it, its channel, and its bytes, at most 4,096.

@@ -1,12 +1,9 @@
 -- A message of at most 4,096 bytes has at most three PDUs: its third block ends where the message does, if none ended there before.
 -- So a count of PDUs over three sends all of them.
 -- Assumes nothing.
-use mathlib.Core.Path.{◌≡◌}
-use mathlib.Core.Bool.{cond}
-use Prim.Native.Nat.{ℕ, ◌+◌, ◌-◌, ◌≤◌, min}
+use Prim.Native.Nat.{ℕ, ◌+◌, ◌≤◌, min}
 use native.Mathlib.Omega.{arith}
 use Rattle.paper.specs.Sizes.{PDU_MAX, MESSAGE_MAX}
-use Rattle.numbers.specs.Numbers.{narrowest}
 use Rattle.numbers.proofs.Widths.{narrowest_le}
 use Rattle.lists.proofs.Cases.{choice}
 use Rattle.cutting.specs.Cutting.{is_first, header_len, block_len, block_end}

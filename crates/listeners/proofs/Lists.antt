@@ -10,7 +10,7 @@ use lib.ListN.{length, replicate}
 use Rattle.paper.specs.Sizes.{LIST_MAX}
 use Rattle.listeners.specs.Listeners.{names, ended, is_empty, none_empty, same_bytes, is_one_of, all_names, good_list}
 use Rattle.listeners.specs.Listeners.{is_listed}
-use Rattle.listeners.proofs.Matches.{same_self, same_behind}
+use Rattle.listeners.proofs.Matches.{same_behind}
 use Rattle.listeners.proofs.Names.{Clean, names_none, names_front}
 
 -- one or more bytes are not none

@@ -1,6 +1,6 @@
 -- How the first row that holds is found: a row that holds is it, and one that doesn't is passed.
 -- Assumes nothing.
-use mathlib.Core.Path.{◌≡◌, refl, ap}
+use mathlib.Core.Path.{◌≡◌, refl}
 use mathlib.Core.Bool.{Bool, true, false, cond}
 use mathlib.Core.List.{List, [], ◌∷◌, ◌++◌}
 use Rattle.paper.specs.declared.Refusal.{Refusal}

@@ -1,27 +1,26 @@
 -- Reading accepts exactly the language: every encoding is read as the values that it says, kind by kind, and what reading
 -- answers is an encoding, stage by stage.
 -- Assumes nothing.
-use Prim.Native.Nat.{ℕ, zero, suc, ◌+◌, ◌-◌, ◌*◌, ◌/◌, ◌%◌, ◌^◌, ◌≤◌, ◌<◌}
+use Prim.Native.Nat.{ℕ, zero, suc, ◌+◌, ◌-◌, ◌/◌, ◌%◌, ◌^◌, ◌≤◌, ◌<◌}
 use native.Mathlib.Omega.{arith}
 use mathlib.Core.Path.{◌≡◌, refl, sym, ap, ◌∙◌, subst}
 use mathlib.Core.Bool.{Bool, true, false, cond, not}
-use mathlib.Core.List.{List, [], ◌∷◌, ◌++◌, append_assoc, append-nil}
-use borrow.Author.Tests.{lt-ltb, le-ltb, lt-leb, ltb-true, ltb-false, leb-false, eq-eqb, ne_eqb, eqb-true, eqb-false, not-false}
-use lib.Dec.{eqb, ltb, leb, lit<, lit≤}
+use mathlib.Core.List.{List, [], ◌∷◌, ◌++◌, append-nil}
+use borrow.Author.Tests.{le-ltb, lt-leb, ltb-true, ltb-false, leb-false, ne_eqb, eqb-true, eqb-false, not-false}
+use lib.Dec.{eqb, ltb, leb, lit<}
 use lib.IntN.{ℤ}
 use lib.ListN.{length, take, drop, get_or, length-append, length-take, length-drop, take-append-drop, drop_of_length-le}
-use lib.Seq.{take_all, take_at, drop_at, drop-cons, drop-drop, get_or-drop, take-add, take-suc}
+use lib.Seq.{take_all, take_at, drop_at, drop-cons, drop-drop, get_or-drop}
 use mir.Syntax.{w32}
 use mir.Val.{SFits}
 use Rattle.paper.specs.Sizes.{PDU_MAX}
 use Rattle.paper.specs.Commands.{CREATE, DATA_FIRST, DATA, CLOSE, CAPABILITIES}
-use Rattle.paper.specs.declared.Refusal.{Refusal}
 use Rattle.paper.specs.declared.Refusal.TheVariants.{BadField}
 use Rattle.lists.specs.Bytes.{is_zero}
 use Rattle.lists.specs.Places.{place, here_or}
 use Rattle.lists.proofs.Cases.{choice}
 use Rattle.lists.proofs.Laid.{to_end}
-use Rattle.lists.proofs.Places.{place_behind, place_passes}
+use Rattle.lists.proofs.Places.{place_behind}
 use Rattle.numbers.specs.Numbers.{Bytes, little, bytes_of, value_of, value_at, width_of}
 use Rattle.numbers.specs.Status.{status_of, status_bytes, signed_of}
 use Rattle.numbers.proofs.Widths.{length_bytes_of, width_le, value_in, value_below, little_below, bytes_of_little}
@@ -36,9 +35,9 @@ use Rattle.reading.specs.declared.Pdu.TheVariants.{CreateRequest, CreateResponse
 use Rattle.reading.specs.declared.Pdu.TheVariants.{CapsRequest, CapsResponse, Refused}
 use Rattle.paper.proofs.Sizes.{twelve_fit}
 use Rattle.reading.proofs.Placed.{good_version}
-use Rattle.reading.proofs.Heads.{head_in, length_head_in, Headed, read_head}
+use Rattle.reading.proofs.Heads.{head_in, length_head_in, read_head}
 use Rattle.reading.specs.Grammar.{Value, create_request_law, create_response_law, data_first_law, data_block, close}
-use Rattle.reading.specs.Grammar.{capabilities_request, capabilities_response, Read, values, refusal, meant}
+use Rattle.reading.specs.Grammar.{capabilities_request, capabilities_response, values, meant}
 use Rattle.reading.specs.Grammar.{read_as, InWidth, first_byte, carrying, NoZero, SmallCharges, no_charges}
 use Rattle.reading.specs.Grammar.{charge_bytes, versioned, Encodes, create_request_is, create_response_is}
 use Rattle.reading.specs.Grammar.{data_first_is, data_is, close_is, capabilities_1_is, capabilities_is}

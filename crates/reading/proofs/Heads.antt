@@ -1,25 +1,16 @@
 -- Reading a PDU whose number stands in any width comes to what stands behind the number.
 -- Assumes nothing.
-use mathlib.Core.Path.{◌≡◌, refl, sym, ap, ◌∙◌}
-use mathlib.Core.Bool.{Bool, true, false}
+use mathlib.Core.Path.{◌≡◌, refl, ap, ◌∙◌}
+use mathlib.Core.Bool.{Bool, false}
 use mathlib.Core.List.{List, [], ◌∷◌, ◌++◌}
-use Prim.Native.Nat.{ℕ, ◌+◌, ◌-◌, ◌*◌, ◌/◌, ◌%◌, ◌^◌, ◌≤◌, ◌<◌}
+use Prim.Native.Nat.{ℕ, ◌+◌, ◌*◌, ◌/◌, ◌%◌, ◌^◌, ◌≤◌, ◌<◌}
 use native.Mathlib.Omega.{arith}
-use borrow.Author.Tests.{lt-ltb, le-ltb, ne_eqb, ltb-true, ltb-false}
-use lib.Dec.{eqb, ltb, leb}
+use borrow.Author.Tests.{le-ltb, ne_eqb}
 use lib.ListN.{length, get_or, length-append}
-use lib.Seq.{drop-append_seam, drop-append-add}
 use Rattle.paper.specs.Sizes.{PDU_MAX}
-use Rattle.paper.specs.Commands.{CREATE, DATA_FIRST, DATA}
-use Rattle.lists.specs.Places.{place}
-use Rattle.lists.specs.Bytes.{is_zero}
-use Rattle.lists.proofs.Cases.{each}
 use Rattle.numbers.specs.Numbers.{bytes_of, value_at, width_of}
 use Rattle.numbers.proofs.Widths.{length_bytes_of, value_in, width_le}
-use Rattle.reading.specs.Reading.{read_pdu, by_command, numbered, bad_length_width, after_number, create_request}
-use Rattle.reading.specs.Reading.{named_for, create_response, data_first, closing}
-use Rattle.reading.specs.Said.{said, bytes_at}
-use Rattle.reading.specs.declared.Pdu.TheVariants.{Data}
+use Rattle.reading.specs.Reading.{read_pdu, by_command, numbered, bad_length_width, after_number}
 
 -- the first byte, and a number in the width of the code
 unfoldable pub head_in : ℕ → ℕ → ℕ → ℕ → List ℕ

@@ -2,11 +2,9 @@
 -- Assumes nothing.
 use mathlib.Core.Path.{◌≡◌, refl, sym, ◌∙◌}
 use mathlib.Core.Bool.{Bool, true, false, not, ◌||◌}
-use mathlib.Core.List.{List, [], ◌∷◌}
+use mathlib.Core.List.{List}
 use Prim.Native.Nat.{ℕ}
 use borrow.Author.Tests.{ne_eqb}
-use types.Run.{OneOf, miss}
-use denote.Enum.Declared.{tag_of}
 use lib.Dec.{eqb}
 use Rattle.paper.specs.Rows.{fine}
 use Rattle.paper.specs.Commands.{CREATE, DATA_FIRST}
@@ -19,7 +17,6 @@ use Rattle.reading.specs.declared.Pdu.TheVariants.{CreateRequest, CreateResponse
 use Rattle.reading.specs.declared.Pdu.TheVariants.{CapsRequest, CapsResponse, Refused}
 use Rattle.reading.specs.Said.{verdict_on}
 use Rattle.reading.specs.Strict.{has_sp, sp_set, wide_length, loose_after, strictly, judged}
-use Rattle.reading.specs.contracts.Pdu.{the_type}
 
 -- what a stage owes: plain reading's answer, and strict reading's
 abbrev pub Both : Found → Pdu → Bool → Type 0

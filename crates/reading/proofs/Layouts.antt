@@ -1,18 +1,17 @@
 -- Reading refuses with the first row that holds, and with none exactly if none does: stage by stage of `read_pdu`, whose tests
 -- are those of the rows on the bytes that are left.
 -- Assumes nothing.
-use Prim.Native.Nat.{ℕ, suc, ◌+◌, ◌-◌, ◌*◌, ◌/◌, ◌%◌, ◌≤◌, ◌<◌}
+use Prim.Native.Nat.{ℕ, ◌+◌, ◌/◌, ◌%◌, ◌≤◌, ◌<◌}
 use native.Mathlib.Omega.{arith}
-use mathlib.Core.Path.{◌≡◌, refl, sym, ap, ◌∙◌, subst}
+use mathlib.Core.Path.{◌≡◌, refl, sym, ap, ◌∙◌}
 use mathlib.Core.Bool.{Bool, true, false, cond, not, ◌&&◌, ◌||◌}
 use mathlib.Core.List.{List, [], ◌∷◌, map}
-use borrow.Author.Tests.{lt-ltb, le-ltb, lt-leb, le-leb, ltb-true, ltb-false, leb-true, leb-false, eq-eqb, ne_eqb, eqb-true, eqb-false}
+use borrow.Author.Tests.{lt-ltb, le-ltb, lt-leb, le-leb, ltb-true, ltb-false, eqb-true, eqb-false}
 use lib.Dec.{eqb, ltb, leb}
 use lib.ListN.{length, take, drop, get_or, length-take, length-drop}
 use lib.Seq.{take_all, drop-drop, drop-cons}
 use Rattle.paper.specs.Sizes.{PDU_MAX}
 use Rattle.paper.specs.Commands.{CREATE, DATA_FIRST, DATA, CLOSE, CAPABILITIES}
-use Rattle.paper.specs.declared.Refusal.{Refusal}
 use Rattle.paper.specs.declared.Refusal.TheVariants.{CutShort, TooLong, NoCommand, BadField}
 use Rattle.lists.specs.Bytes.{is_zero}
 use Rattle.lists.proofs.Cases.{choice}
@@ -24,10 +23,9 @@ use Rattle.reading.specs.Reading.{read_pdu, by_command, numbered, bad_length_wid
 use Rattle.reading.specs.Reading.{named_for, create_response, data_first, closing, capabilities, bad_version}
 use Rattle.reading.specs.Reading.{by_version, charged}
 use Rattle.reading.specs.declared.Pdu.{Pdu}
-use Rattle.reading.specs.declared.Pdu.TheVariants.{CreateRequest, CreateResponse, DataFirst, Data, Close}
 use Rattle.reading.specs.declared.Pdu.TheVariants.{CapsRequest, CapsResponse, Refused}
-use Rattle.reading.specs.Layouts.{Field, any, Tail, no_more, any_bytes, a_name, Layout, pad, version_field}
-use Rattle.reading.specs.Layouts.{charges, layout_of, rows_of_tail, rows_of_fields, rows_of_layout, bad_cb_id}
+use Rattle.reading.specs.Layouts.{Field, any, Tail, no_more, any_bytes, a_name, pad, version_field}
+use Rattle.reading.specs.Layouts.{charges, layout_of, rows_of_tail, rows_of_fields, bad_cb_id}
 use Rattle.reading.specs.Layouts.{rows_of_bytes, reading_rows}
 use Rattle.reading.specs.Said.{verdict_on}
 

@@ -7,7 +7,6 @@ use Rattle.std.specs.Prelude.{ℕ, ◌+◌, ◌-◌, ◌/◌, ◌%◌, Bool, con
 use Rattle.paper.specs.Sizes.{PDU_MAX}
 use Rattle.paper.specs.Rows.{refuse}
 use Rattle.paper.specs.Commands.{CREATE, DATA_FIRST, DATA, CAPABILITIES}
-use Rattle.paper.specs.declared.Refusal.{Refusal}
 use Rattle.paper.specs.declared.Refusal.TheVariants.{CutShort, TooLong, NoCommand, BadField}
 use Rattle.lists.specs.Places.{place}
 use Rattle.lists.specs.Bytes.{is_zero}

@@ -1,7 +1,7 @@
 -- The records of the shore's walker, and of both ends in one process, are framings: what they need is told by bytes at their
 -- front.
 -- Assumes nothing.
-use mathlib.Core.Path.{◌≡◌, refl, sym, ap, ◌∙◌}
+use mathlib.Core.Path.{◌≡◌, refl}
 use mathlib.Core.Bool.{Bool, true, false, cond}
 use mathlib.Core.List.{List, [], ◌∷◌, ◌++◌}
 use Prim.Native.Nat.{ℕ, ◌+◌, ◌≤◌, ◌<◌}
@@ -13,7 +13,7 @@ use lib.Seq.{take-append-le, drop-append-le}
 use Rattle.lists.proofs.Cases.{choice}
 use Rattle.numbers.specs.Numbers.{value_of}
 use Rattle.records.specs.Records.{LENGTH, announced}
-use Rattle.records.specs.Desk.{whole_by, REQUEST, OPEN, CLOSE, OPEN_HEAD, name_length, desk_needs, desk_whole}
+use Rattle.records.specs.Desk.{whole_by, REQUEST, OPEN, OPEN_HEAD, name_length, desk_needs, desk_whole}
 use Rattle.records.specs.Desk.{LEAD, AT_SHORE, PANEL_CLOSE, FROM_SHORE, FROM_PANEL, leading, MESSAGE_HEAD, message_length, message_needs, link_needs, link_whole}
 use Rattle.records.specs.Walks.{Framing}
 

@@ -5,7 +5,7 @@
 use mathlib.Core.Path.{◌≡◌, refl, sym, ap, ◌∙◌}
 use mathlib.Core.Logic.{⊎_elim}
 use mathlib.Core.List.{List, [], ◌∷◌, ◌++◌, append_assoc, append-nil}
-use Prim.Native.Nat.{ℕ, zero, suc, ◌+◌, ◌-◌, ◌≤◌, ◌<◌}
+use Prim.Native.Nat.{ℕ, zero, suc, ◌-◌, ◌≤◌, ◌<◌}
 use native.Mathlib.Omega.{arith}
 use borrow.Author.Tests.{lt-ltb, le-ltb, eq-eqb, eqb-true}
 use lib.Dec.{ltb, eqb}
@@ -14,7 +14,7 @@ use lib.Seq.{drop-append-le, drop-drop}
 use Rattle.lists.proofs.Cases.{lt_or_le, choice}
 use Rattle.records.specs.declared.Due.{Due}
 use Rattle.records.specs.declared.Due.TheVariants.{Read, Room, Nothing}
-use Rattle.records.specs.Walks.{Framing, front_of, Program, after_all, text_of_all, size_of, rest_of, ending, written, output, Went, stay, onward, walk_over, walk_through, Turned, due_for, walked, ended, turned, Standing, at_first, Met, brought, input_at, turn_at, standing, Ran, ran}
+use Rattle.records.specs.Walks.{Framing, front_of, Program, after_all, text_of_all, size_of, rest_of, ending, written, output, Went, stay, onward, walk_over, walk_through, Turned, due_for, walked, ended, turned, at_first, Met, brought, standing, Ran, ran}
 use Rattle.records.proofs.Framings.{length_front, front_more, records_none, records_first}
 
 -- what a program's records are is a framing

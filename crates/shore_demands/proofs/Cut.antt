@@ -33,7 +33,7 @@ use Rattle.demands.proofs.Machine as machine
 use Rattle.demands.proofs.Cut.{block_encoded, Takes, landing, StageAt, follow, short_enough_for}
 use Rattle.shore_demands.specs.Runs.{Call, after, Told, told_to, ends, is_event_of, own_events}
 use Rattle.shore_demands.specs.Cut.{cut_events, told_for, HandedUpOnce}
-use Rattle.shore_demands.proofs.Machine.{up_said, told_by, same_told, Around, around, next_in, told_in, read_call, framed_steady}
+use Rattle.shore_demands.proofs.Machine.{up_said, same_told, Around, around, next_in, told_in, read_call, framed_steady}
 use Rattle.shore_demands.proofs.Values.{event_of_value, encoded_event}
 
 -- a PDU's event

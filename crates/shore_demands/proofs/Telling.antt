@@ -43,7 +43,7 @@ use Rattle.demands.proofs.Telling.{act_both, act_told, told_brings, hands_once}
 use Rattle.shore_demands.specs.Runs.{Entry, requests, receives, opens, closes, Told, event_in}
 use Rattle.shore_demands.specs.Alone.{Link, Awaits, As, links_act, links, link_all, tells, join_for, sent_alone, says_alone, told_alone, brought_by, brought}
 use Rattle.shore_demands.specs.Alone.{handed}
-use Rattle.shore_demands.proofs.Machine.{up, up_said, told_by, same_told, plain, next_in, told_in, chan_next, chan_out}
+use Rattle.shore_demands.proofs.Machine.{up_said, told_by, same_told, plain, next_in, told_in, chan_next, chan_out}
 
 -- ---- where a view stands
 

@@ -10,7 +10,7 @@ use Rattle.shore.specs.declared.Said.TheVariants.{Asked, Ready, Awaited, Opened,
 use Rattle.shore.specs.Saying.{said_as}
 use Rattle.shore.specs.Rules.{Answered, Acts, is_below_zero}
 use Rattle.shore.specs.Events.{Event, Unreadable, Asking, Response, Opening, Of}
-use Rattle.demands.specs.Joining.{Join, Off, Waiting, Gathering, Dead, Brings, NoMessage, StillToCome, Complete, joins_if, once}
+use Rattle.demands.specs.Joining.{Join, Off, Waiting, Gathering, Dead, Brings, NoMessage, StillToCome, Complete, joins_if}
 use Rattle.demands.specs.Telling.{says_if, hands_up}
 use Rattle.shore_demands.specs.Runs.{Told}
 

@@ -31,7 +31,7 @@ use Rattle.shore.specs.Numbers.{least_number}
 use Rattle.shore.specs.Events.{Event, Of, event_of}
 use Rattle.shore.specs.Shore.{Standing, state_in, stepped, bad_out, received, locally_closed}
 use Rattle.shore.specs.Shore.{requested, locally_opened, started}
-use Rattle.shore_demands.specs.Runs.{Call, after, told, told_to, ends, event_in, is_of, is_event_of, own_events}
+use Rattle.shore_demands.specs.Runs.{Call, told_to, ends, event_in, is_of, is_event_of, own_events}
 use Rattle.shore_demands.specs.Runs.{started_on, JustReady, Running}
 use Rattle.shore_demands.specs.Alone.{As, told_alone}
 use Rattle.shore_demands.specs.Rows.{outcome_said, receive_rows, request_rows, open_rows, close_rows}

@@ -1,7 +1,7 @@
 -- What a whole run of a program on the manager writes, however its input comes in reads and however little room there is at a time:
 -- what `output_of` says of all that was read. The general law is `whole_output` of `records`; here it is tied to what `turn` promises.
 -- Assumes nothing.
-use Rattle.std.proofs.Common.{◌≡◌, ℕ, ◌-◌, ◌≤◌, List, ◌++◌, length, take, drop, sym, refl, ap, ◌∙◌, arith, length-drop}
+use Rattle.std.proofs.Common.{◌≡◌, ℕ, ◌≤◌, List, ◌++◌, length, take, drop, sym, refl, ap, ◌∙◌, arith, length-drop}
 use Rattle.lists.specs.Bytes.{zeros}
 use Rattle.lists.proofs.Laid.{front}
 use Rattle.records.specs.declared.Due.TheVariants.{Nothing}

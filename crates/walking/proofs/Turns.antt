@@ -1,20 +1,19 @@
 -- The laws of a turn: the walk over the input that is there, the end, and a walk that waits for nothing.
 -- Assumes nothing.
-use Rattle.std.proofs.Common.{◌≡◌, ℕ, ◌-◌, ◌<◌, ◌≤◌, cond, List, [], length, drop, sym, refl, ap, ◌∙◌, arith, le-ltb, lt-ltb, eq-eqb, ne_eqb}
+use Rattle.std.proofs.Common.{◌≡◌, ℕ, ◌-◌, ◌<◌, ◌≤◌, List, [], length, drop, sym, refl, ◌∙◌, arith, le-ltb, lt-ltb, eq-eqb, ne_eqb}
 use Rattle.paper.specs.Sizes.{MESSAGE_MAX}
 use Rattle.lists.specs.Bytes.{laid}
 use Rattle.lists.proofs.Laid.{whole}
 use Rattle.lines.specs.Lines.{LINE_MAX, MESSAGE_LINE_MAX}
 use Rattle.records.specs.declared.Due.{Due}
-use Rattle.records.specs.declared.Due.TheVariants.{Read, Room, Nothing}
-use Rattle.records.specs.Walks.{Program, Turned, stay, walk_through, due_for, walked, ending, ended, turned}
+use Rattle.records.specs.declared.Due.TheVariants.{Read, Nothing}
+use Rattle.records.specs.Walks.{Program, stay, walk_through, due_for, walked, ending, ended, turned}
 use Rattle.linking.specs.Linking.{CALL_MAX, STEP_MAX}
 use Rattle.walking.specs.declared.Job.{Job}
 use Rattle.walking.specs.declared.Job.TheVariants.{Client, Strict, Desk, Link}
 use Rattle.walking.specs.declared.Told.TheVariants.{Lines, Messages, Moves, Totals}
 use Rattle.walking.specs.declared.Kept.{Kept}
 use Rattle.walking.specs.declared.Walked.{Walked}
-use Rattle.walking.specs.declared.Turned.{Turned as Turn}
 use Rattle.walking.specs.Walking.{Walk, walk_of, room_told, room_for, cut_for, program, Walks, Turns}
 
 -- nothing moves

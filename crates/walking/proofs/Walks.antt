@@ -1,6 +1,6 @@
 -- The laws of a walk: what is left of it at each turn of its loop, and where it ends. They hold for any program on the manager.
 -- Assumes nothing.
-use Rattle.std.proofs.Common.{◌≡◌, ℕ, ◌+◌, ◌-◌, ◌<◌, ◌≤◌, List, [], ◌∷◌, length, drop, refl, ap, ◌∙◌, arith, length-append, length-drop, drop-drop}
+use Rattle.std.proofs.Common.{◌≡◌, ℕ, ◌+◌, ◌-◌, ◌<◌, ◌≤◌, List, [], length, drop, refl, ap, ◌∙◌, arith, length-append, length-drop, drop-drop}
 use Rattle.lists.specs.Bytes.{laid}
 use Rattle.lists.proofs.Laid.{laid_behind, length_laid}
 use Rattle.records.specs.Walks.{Program, Went, stay, onward, walk_through}

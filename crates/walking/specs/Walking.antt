@@ -1,6 +1,6 @@
 -- Walks over records: each record goes to the client's step or to the shore's, and what is written says what was answered; or
 -- it is only read, strictly, and what is written says whether it was accepted.
-use Rattle.std.specs.Prelude.{ℕ, ◌+◌, ◌-◌, ◌*◌, ◌%◌, ◌≤◌, Bool, true, false, cond, ◌&&◌, List, [], length, take, drop, ◌==◌, slice_index_or}
+use Rattle.std.specs.Prelude.{ℕ, ◌+◌, ◌-◌, ◌*◌, ◌%◌, ◌≤◌, Bool, true, false, cond, ◌&&◌, List, [], length, drop, ◌==◌, slice_index_or}
 use Rattle.paper.specs.Sizes.{STORE, REPLY_MIN, PDU_MAX}
 use Rattle.paper.specs.Rows.{verdict_number}
 use Rattle.lists.specs.Bytes.{laid, zeros}

@@ -27,7 +27,8 @@ pub overflow_add-sum : goal.overflow_add-sum
 overflow_add-sum c = record { fits = omega (arith, c.word-sum.ensures.1) }
 
 pub loop-at-preserved : goal.loop-at-preserved
-loop-at-preserved c = let l = c.loop-at in
+loop-at-preserved c =
+    let l = c.loop-at in
     let block = c.args.block.now in
     let next = total_on block l.at (omega arith) in
     (omega arith, omega arith, omega (arith, c.word-sum.ensures.1), omega (arith, next, c.word-sum.ensures.0, l.invariant.3))

@@ -11,7 +11,8 @@ use Rattle.blocks.proofs.Sealing.{length_joined, body_filled}
 use Rattle.blocks.proofs.fill.Goals as goal
 
 pub returns : goal.returns
-returns c = let a = c.args in
+returns c =
+    let a = c.args in
     let block = a.block.now in
     let bytes = a.bytes.now in
     let all = a.used + c.lesser.result in

@@ -14,7 +14,8 @@ use Rattle.blocks.proofs.lay_head.Goals as goal
 
 pub returns : goal.returns
 unfolding headed head_of
-returns c = let a = c.args in
+returns c =
+    let a = c.args in
     let block = a.block.now in
     let n = bytes_of 2 a.number in
     let u = bytes_of 2 a.used in

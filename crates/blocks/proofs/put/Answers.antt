@@ -9,5 +9,6 @@ use Rattle.blocks.proofs.put.Goals as goal
 
 pub returns : goal.returns
 unfolding laid bytes_of
-returns c = let high : c.args.word / 256 % 256 ≡ c.args.word / 256 = omega arith in
+returns c =
+    let high : c.args.word / 256 % 256 ≡ c.args.word / 256 = omega arith in
     rw (add-one c.args.at, high)

@@ -37,7 +37,8 @@ lay_head-requires c =
     (search rules, search rules, omega (arith, few), search rules)
 
 pub returns : goal.returns
-returns c = let a = c.args in
+returns c =
+    let a = c.args in
     let block = a.block.now in
     let payload = joined_to a.used a.bytes.now block in
     c.lay_head.ensures

@@ -9,10 +9,12 @@ returns-then-number-eq-BAD_CALL c = let number = sym c.refusal_number-number.ens
 
 pub returns-then-number-eq-SPOILED : goal.returns-then-number-eq-SPOILED
 unfolding cause_by
-returns-then-number-eq-SPOILED c = let number = sym c.refusal_number-number.ensures in
+returns-then-number-eq-SPOILED c =
+    let number = sym c.refusal_number-number.ensures in
     rw (number, ne_eqb _ 1 c.if-number-eq-BAD_CALL.false, eq-eqb _ 13 c.if-number-eq-SPOILED.true, ← c.note_at.ensures) c.spoiling.ensures
 
 pub returns : goal.returns
 unfolding cause_by
-returns c = let number = sym c.refusal_number-number.ensures in
+returns c =
+    let number = sym c.refusal_number-number.ensures in
     rw (number, ne_eqb _ 1 c.if-number-eq-BAD_CALL.false, ne_eqb _ 13 c.if-number-eq-SPOILED.false, ← c.first.ensures) c.named.ensures

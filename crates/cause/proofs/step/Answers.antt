@@ -6,5 +6,6 @@ use Rattle.cause.proofs.step.Goals as goal
 
 pub returns : goal.returns
 unfolding way_after zeros REPLY_MIN
-returns c = let got = c.receive-received.ensures in
+returns c =
+    let got = c.receive-received.ensures in
     record { value = rw (← got.value) c.onward.ensures; store_after = got.store_after }

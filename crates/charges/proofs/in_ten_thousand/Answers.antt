@@ -12,7 +12,8 @@ unfolding part
 returns-then-all-eq0 c = rw c.if-all-eq0.true (sym (div-zero (WHOLE * c.args.weight)))
 
 pub overflow_cast-result : goal.overflow_cast-result
-overflow_cast-result c = let a = c.args in
+overflow_cast-result c =
+    let a = c.args in
     let h : WHOLE * a.weight / a.all ≤ WHOLE = div-le_of_le-mul a.all (omega arith) in
     omega (arith, c.rounded.ensures, h)
 

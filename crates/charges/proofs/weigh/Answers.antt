@@ -11,14 +11,17 @@ unfolding weight
 returns-then-charge-eq0 c = (simp (eq-eqb _ _ c.if-charge-eq0.true), omega arith)
 
 pub overflow_mul-result : goal.overflow_mul-result
-overflow_mul-result c = let a = c.args in
+overflow_mul-result c =
+    let a = c.args in
     record { fits = omega (arith, two_below a.a a.b (search rules) (search rules)) }
 
 pub overflow_mul-result-2 : goal.overflow_mul-result-2
-overflow_mul-result-2 c = let a = c.args in
+overflow_mul-result-2 c =
+    let a = c.args in
     record { fits = omega (arith, three_below a.a a.b a.c (search rules) (search rules) (search rules)) }
 
 pub returns : goal.returns
 unfolding weight
-returns c = let a = c.args in
+returns c =
+    let a = c.args in
     (simp (ne_eqb _ _ c.if-charge-eq0.false), three_below a.a a.b a.c (search rules) (search rules) (search rules))

@@ -13,11 +13,13 @@ use Rattle.client.specs.Asking.{nowhere, asking, create_ask, heard_in}
 use Rattle.client.proofs.heard.Goals as goal
 
 pub overflow_add-end : goal.overflow_add-end
-overflow_add-end c = let lies_in : Placed c.args.pdu.now c.read.result = rw c.read.ensures (placed c.args.pdu.now true) in
+overflow_add-end c =
+    let lies_in : Placed c.args.pdu.now c.read.result = rw c.read.ensures (placed c.args.pdu.now true) in
     omega (arith, rw c.in-CreateRequest.is at (lies_in))
 
 pub slice_bounds-create_ask-end : goal.slice_bounds-create_ask-end
-slice_bounds-create_ask-end c = let lies_in : Placed c.args.pdu.now c.read.result = rw c.read.ensures (placed c.args.pdu.now true) in
+slice_bounds-create_ask-end c =
+    let lies_in : Placed c.args.pdu.now c.read.result = rw c.read.ensures (placed c.args.pdu.now true) in
     omega (arith, rw c.in-CreateRequest.is at (lies_in))
 
 pub returns-in-Refused : goal.returns-in-Refused
@@ -30,7 +32,8 @@ returns-in-CapsRequest c = rw (sym c.read.ensures ∙ c.in-CapsRequest.is) c.bar
 
 pub returns-in-CreateRequest : goal.returns-in-CreateRequest
 unfolding heard_in bytes_at
-returns-in-CreateRequest c = let a = c.args in
+returns-in-CreateRequest c =
+    let a = c.args in
     let request = c.in-CreateRequest in
     let name = request.name in
     let bytes = from_to a.pdu.now name.at name.len in

@@ -20,7 +20,8 @@ returns-in-Version c = rw c.in-Version.is (record { value = c.capabilities_respo
 
 pub returns-in-Status : goal.returns-in-Status
 unfolding reply_told
-returns-in-Status c = let a = c.args in
+returns-in-Status c =
+    let a = c.args in
     let same = to_z-of_z {w = w32} {z = c.in-Status.status} (search rules) in
     let laying = c.create_response.ensures in
     rw c.in-Status.is (record { value = laying.value ∙ ap (λ (z : ℤ). length (create_response_bytes a.number z)) same; reply_after = laying.out_after ∙ ap (λ (z : ℤ). laid a.reply.now 0 (create_response_bytes a.number z)) same })

@@ -7,5 +7,6 @@ use Rattle.client.proofs.receive.Goals as goal
 
 pub returns : goal.returns
 unfolding received
-returns c = let a = c.args in
-    rw (← event_asked_law a.list.now a.pdu.now (read_pdu true a.pdu.now), ← c.heard.ensures) c.step.ensures  -- TODO record value store_after reply_after
+returns c =
+    let a = c.args in
+    rw (← event_asked_law a.list.now a.pdu.now (read_pdu true a.pdu.now), ← c.heard.ensures) c.step.ensures

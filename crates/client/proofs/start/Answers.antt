@@ -8,10 +8,12 @@ use Rattle.client.proofs.start.Goals as goal
 
 pub returns-then-store-ne-STORE : goal.returns-then-store-ne-STORE
 unfolding started store_started PARTS PART MESSAGE_MAX STORE
-returns-then-store-ne-STORE c = let other = c.if-store-ne-STORE.true in
+returns-then-store-ne-STORE c =
+    let other = c.if-store-ne-STORE.true in
     simp ne_eqb (record { value = simp c.empty.ensures; store_after = refl })
 
 pub returns : goal.returns
 unfolding started store_started PARTS PART MESSAGE_MAX STORE
-returns c = let whole = c.if-store-ne-STORE.false in
+returns c =
+    let whole = c.if-store-ne-STORE.false in
     simp eq-eqb (record { value = simp c.empty-2.ensures; store_after = c.clear.ensures ∙ ap zeros whole })

@@ -13,7 +13,8 @@ use Rattle.client.proofs.step.Goals as goal
 
 pub returns-then-bad_call : goal.returns-then-bad_call
 unfolding PARTS
-returns-then-bad_call c = let a = c.args in
+returns-then-bad_call c =
+    let a = c.args in
     let store = a.store.now in
     let reply = a.reply.now in
     let st = state_of a.table store in
@@ -22,13 +23,15 @@ returns-then-bad_call c = let a = c.args in
     (gives_refused st BadCall reply _ c.refused.ensures) in record { value = both.0; store_after = both.1.0; reply_after = both.1.1 }
 
 pub taken-requires : goal.taken-requires
-taken-requires c = let a = c.args in
+taken-requires c =
+    let a = c.args in
     let good = proper a.table (length a.store.now) (length a.reply.now) (sym c.bad_call.ensures ∙ c.if-bad_call.false) in
     (good.store_size, good.sound)
 
 pub returns : goal.returns
 unfolding event_asked
-returns c = let a = c.args in
+returns c =
+    let a = c.args in
     let store = a.store.now in
     let reply = a.reply.now in
     let st = state_of a.table store in

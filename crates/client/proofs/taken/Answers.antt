@@ -10,7 +10,8 @@ use Rattle.client.proofs.taken.Goals as goal
 
 pub returns : goal.returns
 unfolding PARTS
-returns c = let sixteen : length c.args.table.records ≡ PARTS = search (rules, length_mapped, c.well_formed) in
+returns c =
+    let sixteen : length c.args.table.records ≡ PARTS = search (rules, length_mapped, c.well_formed) in
     let a = c.args in
     let stands = c.place_for.ensures ∙ ap (place_if _) c.place_after.ensures in
     gives_decided a.number a.table a.store.now (sixteen) c.requires.0 c.requires.1 a.matter a.block.now _ _

@@ -13,7 +13,8 @@ use borrow.Author.Rules.{rules}
 use Rattle.client_face.proofs.call.Goals as goal
 
 pub returns-then-bad : goal.returns-then-bad
-returns-then-bad c = let a = c.args in
+returns-then-bad c =
+    let a = c.args in
     let l = a.state.now in
     let bytes : Bytes l = λ i. search rules in
     let bad = sym c.bad.ensures ∙ c.if-bad.true in
@@ -21,12 +22,14 @@ returns-then-bad c = let a = c.args in
     (record { value = c.refused.ensures; state_after = refl; store_after = refl; reply_after = refl })
 
 pub taken-requires : goal.taken-requires
-taken-requires c = let a = c.args in
+taken-requires c =
+    let a = c.args in
     face_proper a.state.now (length a.store.now) (length a.reply.now) (sym c.bad.ensures ∙ c.if-bad.false)
 
 pub returns : goal.returns
 unfolding event_asked
-returns c = let a = c.args in
+returns c =
+    let a = c.args in
     let l = a.state.now in
     let pdu = a.pdu.now in
     let event = event_asked (asked_by a.heard a.list.now pdu a.number) pdu in

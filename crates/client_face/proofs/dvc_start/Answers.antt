@@ -9,12 +9,14 @@ use Rattle.client_face.proofs.dvc_start.Goals as goal
 
 pub returns-then-state-ne-STATE : goal.returns-then-state-ne-STATE
 unfolding STATE dvc_started
-returns-then-state-ne-STATE c = let a = c.args in
+returns-then-state-ne-STATE c =
+    let a = c.args in
     rw (begins_other CLIENT _ a.state.now a.store.now c.if-state-ne-STATE.true) (record { value = refl; state_after = refl; store_after = refl })
 
 pub returns-in-Done : goal.returns-in-Done
 unfolding STATE dvc_started
-returns-in-Done c = let a = c.args in
+returns-in-Done c =
+    let a = c.args in
     let state = a.state.now in
     let store = a.store.now in
     let begun = ap (λ (x : Started). x.begun) c.start-started.ensures.value in
@@ -25,7 +27,8 @@ returns-in-Done c = let a = c.args in
 
 pub returns-in-Refused : goal.returns-in-Refused
 unfolding STATE dvc_started
-returns-in-Refused c = let a = c.args in
+returns-in-Refused c =
+    let a = c.args in
     let state = a.state.now in
     let store = a.store.now in
     let begun = ap (λ (x : Started). x.begun) c.start-started.ensures.value in

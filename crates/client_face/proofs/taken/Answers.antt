@@ -21,7 +21,8 @@ use Rattle.client_face.proofs.taken.Goals as goal
 
 pub returns : goal.returns
 unfolding PARTS
-returns c = let a = c.args in
+returns c =
+    let a = c.args in
     let n = a.number in
     let l = a.state.now in
     let t = table_in l in

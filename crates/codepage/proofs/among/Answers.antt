@@ -15,7 +15,8 @@ pub loop-byte-init : goal.loop-byte-init
 loop-byte-init c = (omega arith, (omega arith, λ k low high e. omega arith))
 
 pub returns-then-entry-point : goal.returns-then-entry-point
-returns-then-entry-point c = let byte = c.loop-byte.byte in
+returns-then-entry-point c =
+    let byte = c.loop-byte.byte in
     let is = partners_byte byte c.args.point (record {
       byte = omega (arith, c.loop-byte-test.true);
       entry_is = sym c.entry.ensures ∙ c.if-entry-point.true;
@@ -24,7 +25,8 @@ returns-then-entry-point c = let byte = c.loop-byte.byte in
     rw is
 
 pub loop-byte-preserved : goal.loop-byte-preserved
-loop-byte-preserved c = let l = c.loop-byte in
+loop-byte-preserved c =
+    let l = c.loop-byte in
     let point = c.args.point in
     let passed : (k : ℕ) → 0x80 ≤ k → k < l.byte + 1 → point_of k ≡ point → ⊥ = λ k low high e.
     ⊎_elim
@@ -34,6 +36,7 @@ loop-byte-preserved c = let l = c.loop-byte in
     (omega arith, (omega arith, passed))
 
 pub returns : goal.returns
-returns c = let l = c.loop-byte in
+returns c =
+    let l = c.loop-byte in
     let none = not_among c.args.point c.requires.0 (λ k low high. l.invariant.1.1 k low (omega (arith, high, c.loop-byte-test.false))) in
     rw none

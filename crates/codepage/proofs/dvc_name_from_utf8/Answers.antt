@@ -8,9 +8,11 @@ use Rattle.codepage.proofs.Answers.{countable}
 use Rattle.codepage.proofs.dvc_name_from_utf8.Goals as goal
 
 pub number_for-requires : goal.number_for-requires
-number_for-requires c = let a = c.args in
+number_for-requires c =
+    let a = c.args in
     subst Countable (sym c.from_utf8.ensures.value) (countable (name_of a.text.now) a.out.now (omega (arith, c.well_formed.1.0.1)))
 
 pub returns : goal.returns
-returns c = let back = to_z-of_z {w = w64} {z = c.number_for.result} (record { sfits = c.number_for.type_inv }) in
+returns c =
+    let back = to_z-of_z {w = w64} {z = c.number_for.result} (record { sfits = c.number_for.type_inv }) in
     record { value = back ∙ c.number_for.ensures ∙ ap number_for c.from_utf8.ensures.value; out_after = c.from_utf8.ensures.out_after }

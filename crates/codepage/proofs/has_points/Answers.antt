@@ -15,18 +15,21 @@ pub loop-i-init : goal.loop-i-init
 loop-i-init c = record { done = []; leads = leads_first utf8_of c.args.name.now }
 
 pub returns-then-entry : goal.returns-then-entry
-returns-then-entry c = let l = c.loop-i in
+returns-then-entry c =
+    let l = c.loop-i in
     let name = c.args.name.now in
     let stopped = byte_off name l.i c.loop-i-test.true l.invariant.done l.invariant.leads (sym c.entry.ensures ∙ c.if-entry.true) in
     sym (ap is_some stopped)
 
 pub loop-i-preserved : goal.loop-i-preserved
-loop-i-preserved c = let l = c.loop-i in
+loop-i-preserved c =
+    let l = c.loop-i in
     let name = c.args.name.now in
     let on = byte_on name l.i c.loop-i-test.true l.invariant.done l.invariant.leads _ c.entry.ensures c.if-entry.false in
     record { done = _; leads = on }
 
 pub returns : goal.returns
-returns c = let l = c.loop-i in
+returns c =
+    let l = c.loop-i in
     let name = c.args.name.now in
     sym (ap is_some (leads_end utf8_of name l.i l.invariant.done name_ends (omega (arith, c.loop-i-test.false)) l.invariant.leads))

@@ -10,7 +10,8 @@ use Rattle.codepage.proofs.Signs.{less_fits, less_is}
 use Rattle.codepage.proofs.number_for.Goals as goal
 
 pub overflow_cast-result : goal.overflow_cast-result
-overflow_cast-result c = let small : c.in-Length.n < 2 ^ 63 = subst Countable c.in-Length.is c.requires in
+overflow_cast-result c =
+    let small : c.in-Length.n < 2 ^ 63 = subst Countable c.in-Length.is c.requires in
     record { sfits = small }
 
 pub overflow_sub-result : goal.overflow_sub-result
@@ -18,7 +19,8 @@ overflow_sub-result c = less_fits c.refusal_number.result (omega arith)
 
 pub returns-in-Length : goal.returns-in-Length
 unfolding number_for
-returns-in-Length c = let small : c.in-Length.n < 2 ^ 63 = subst Countable c.in-Length.is c.requires in
+returns-in-Length c =
+    let small : c.in-Length.n < 2 ^ 63 = subst Countable c.in-Length.is c.requires in
     rw c.in-Length.is (to_z_pos w64 (small))
 
 pub returns-in-Refused : goal.returns-in-Refused

@@ -9,11 +9,13 @@ use Rattle.codepage.proofs.Answers.{no_partner, no_room, written, too_short, roo
 use Rattle.codepage.proofs.to_utf8.Goals as goal
 
 pub returns-then-not-has_points : goal.returns-then-not-has_points
-returns-then-not-has_points c = let a = c.args in
+returns-then-not-has_points c =
+    let a = c.args in
     let both = no_partner (utf8_of a.name.now) a.out.now (sym c.has_points.ensures ∙ c.if-not-has_points.true) in record { value = both.0; out_after = both.1 }
 
 pub returns-in_default : goal.returns-in_default
-returns-in_default c = let has : is_some (utf8_of c.args.name.now) ≡ true = sym c.has_points.ensures ∙ c.if-not-has_points.false in
+returns-in_default c =
+    let has : is_some (utf8_of c.args.name.now) ≡ true = sym c.has_points.ensures ∙ c.if-not-has_points.false in
     let a = c.args in
     let name = utf8_of a.name.now in
     let short = too_short name (length a.out.now) (has) (sym c.room_after.ensures ∙ c.in_default.is) in

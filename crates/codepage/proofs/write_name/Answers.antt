@@ -11,7 +11,8 @@ use Rattle.codepage.proofs.Names.{text_ends, front_off, front_on}
 use Rattle.codepage.proofs.write_name.Goals as goal
 
 pub overflow_add-n : goal.overflow_add-n
-overflow_add-n c = let next : let l = c.loop-at in
+overflow_add-n c =
+    let next : let l = c.loop-at in
     let text = c.args.text.now in
     let width = c.in-Byte.width in
     Leads name_of text (l.at + width) (l.invariant.done ++ (c.in-Byte.byte ∷ [])) × ((0 < width) × (l.at + width ≤ length text)) = let l = c.loop-at in
@@ -25,7 +26,8 @@ overflow_add-n c = let next : let l = c.loop-at in
 
 pub loop-at-preserved : goal.loop-at-preserved
 unfolding laid
-loop-at-preserved c = let next : let l = c.loop-at in
+loop-at-preserved c =
+    let next : let l = c.loop-at in
     let text = c.args.text.now in
     let width = c.in-Byte.width in
     Leads name_of text (l.at + width) (l.invariant.done ++ (c.in-Byte.byte ∷ [])) × ((0 < width) × (l.at + width ≤ length text)) = let l = c.loop-at in
@@ -36,7 +38,8 @@ loop-at-preserved c = let next : let l = c.loop-at in
     laid_on name_of a.text.now l.at a.out.now l.out _ l.n _ l.invariant _ _ (next).0 refl refl
 
 pub returns : goal.returns
-returns c = let l = c.loop-at in
+returns c =
+    let l = c.loop-at in
     let text = c.args.text.now in
     let all = leads_end name_of text l.at l.invariant.done text_ends (omega (arith, c.loop-at-test.false)) l.invariant.leads in
     rw all l.invariant.so_far
@@ -45,21 +48,24 @@ pub loop-at-init : goal.loop-at-init
 loop-at-init c = laid_none name_of _ _
 
 pub shape_of-out-in_default : goal.shape_of-out-in_default
-shape_of-out-in_default c = let never : ⊥ = let l = c.loop-at in
+shape_of-out-in_default c =
+    let never : ⊥ = let l = c.loop-at in
     let text = c.args.text.now in
     let off = front_off text l.at c.loop-at-test.true l.invariant.done l.invariant.leads (sym c.in_default.is ∙ c.front_at.ensures) in
     true_not_false (sym c.requires.text_value ∙ ap is_some off) in
     absurd (never)
 
 pub returns-in_default : goal.returns-in_default
-returns-in_default c = let never : ⊥ = let l = c.loop-at in
+returns-in_default c =
+    let never : ⊥ = let l = c.loop-at in
     let text = c.args.text.now in
     let off = front_off text l.at c.loop-at-test.true l.invariant.done l.invariant.leads (sym c.in_default.is ∙ c.front_at.ensures) in
     true_not_false (sym c.requires.text_value ∙ ap is_some off) in
     absurd (never)
 
 pub bounds-out-n : goal.bounds-out-n
-bounds-out-n c = let next : let l = c.loop-at in
+bounds-out-n c =
+    let next : let l = c.loop-at in
     let text = c.args.text.now in
     let width = c.in-Byte.width in
     Leads name_of text (l.at + width) (l.invariant.done ++ (c.in-Byte.byte ∷ [])) × ((0 < width) × (l.at + width ≤ length text)) = let l = c.loop-at in
@@ -70,7 +76,8 @@ bounds-out-n c = let next : let l = c.loop-at in
     omega (arith, fits)
 
 pub overflow_add-at : goal.overflow_add-at
-overflow_add-at c = let next : let l = c.loop-at in
+overflow_add-at c =
+    let next : let l = c.loop-at in
     let text = c.args.text.now in
     let width = c.in-Byte.width in
     Leads name_of text (l.at + width) (l.invariant.done ++ (c.in-Byte.byte ∷ [])) × ((0 < width) × (l.at + width ≤ length text)) = let l = c.loop-at in
@@ -79,7 +86,8 @@ overflow_add-at c = let next : let l = c.loop-at in
     omega (arith, (next).1)
 
 pub loop-at-smaller : goal.loop-at-smaller
-loop-at-smaller c = let next : let l = c.loop-at in
+loop-at-smaller c =
+    let next : let l = c.loop-at in
     let text = c.args.text.now in
     let width = c.in-Byte.width in
     Leads name_of text (l.at + width) (l.invariant.done ++ (c.in-Byte.byte ∷ [])) × ((0 < width) × (l.at + width ≤ length text)) = let l = c.loop-at in

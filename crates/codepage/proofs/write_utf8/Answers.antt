@@ -15,7 +15,8 @@ unfolding points
 entry-requires c = refl
 
 pub overflow_add-at : goal.overflow_add-at
-overflow_add-at c = let next : let l = c.loop-i in
+overflow_add-at c =
+    let next : let l = c.loop-i in
     Leads utf8_of c.args.name.now (l.i + 1) (l.invariant.done ++ sequence_of c.entry.result) = let l = c.loop-i in
     byte_sure c.args.name.now l.i c.loop-i-test.true l.invariant.done l.invariant.leads _ c.entry.ensures c.requires.name_value in
     let fits : let l = c.loop-i in l.at + length (sequence_of c.entry.result) ≤ length l.out = let l = c.loop-i in
@@ -25,7 +26,8 @@ overflow_add-at c = let next : let l = c.loop-i in
     omega (arith, fits, c.lay-at.ensures.value, same, c.well_formed.1.0.0)
 
 pub loop-i-preserved : goal.loop-i-preserved
-loop-i-preserved c = let next : let l = c.loop-i in
+loop-i-preserved c =
+    let next : let l = c.loop-i in
     Leads utf8_of c.args.name.now (l.i + 1) (l.invariant.done ++ sequence_of c.entry.result) = let l = c.loop-i in
     byte_sure c.args.name.now l.i c.loop-i-test.true l.invariant.done l.invariant.leads _ c.entry.ensures c.requires.name_value in
     let l = c.loop-i in
@@ -34,7 +36,8 @@ loop-i-preserved c = let next : let l = c.loop-i in
     (omega (arith, c.lay-at.ensures.value))
 
 pub returns : goal.returns
-returns c = let l = c.loop-i in
+returns c =
+    let l = c.loop-i in
     let name = c.args.name.now in
     let all = leads_end utf8_of name l.i l.invariant.done name_ends (omega (arith, c.loop-i-test.false)) l.invariant.leads in
     rw all l.invariant.so_far
@@ -43,7 +46,8 @@ pub loop-i-init : goal.loop-i-init
 loop-i-init c = laid_none utf8_of _ _
 
 pub lay-at-requires : goal.lay-at-requires
-lay-at-requires c = let next : let l = c.loop-i in
+lay-at-requires c =
+    let next : let l = c.loop-i in
     Leads utf8_of c.args.name.now (l.i + 1) (l.invariant.done ++ sequence_of c.entry.result) = let l = c.loop-i in
     byte_sure c.args.name.now l.i c.loop-i-test.true l.invariant.done l.invariant.leads _ c.entry.ensures c.requires.name_value in
     let fits : let l = c.loop-i in l.at + length (sequence_of c.entry.result) ≤ length l.out = let l = c.loop-i in

@@ -7,7 +7,8 @@ use native.Mathlib.Omega.{arith}
 use Rattle.cutting.proofs.block_end.Goals as goal
 
 pub overflow_sub-room : goal.overflow_sub-room
-overflow_sub-room c = let a = c.args in
+overflow_sub-room c =
+    let a = c.args in
     omega (arith, c.header_len-room.ensures, header_le a.number a.total a.at)
 
 pub overflow_add-result : goal.overflow_add-result

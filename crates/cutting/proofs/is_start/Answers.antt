@@ -9,19 +9,22 @@ pub loop-at-init : goal.loop-at-init
 loop-at-init c = (search rules, walk_begins _ _ _)
 
 pub returns-then-total-end : goal.returns-then-total-end
-returns-then-total-end c = let a = c.args in
+returns-then-total-end c =
+    let a = c.args in
     let l = c.loop-at in
     sym (l.invariant.1 ∙ meets_end _ a.number a.total a.offset l.at c.loop-at-test.true
     (omega (arith, c.block_end-end.ensures)))
 
 pub loop-at-smaller : goal.loop-at-smaller
-loop-at-smaller c = let a = c.args in
+loop-at-smaller c =
+    let a = c.args in
     let l = c.loop-at in
     let end = c.block_end-end.ensures in
     omega (arith, end_after_law a.number a.total l.at (omega (arith, end_from_law a.number a.total l.at)))
 
 pub loop-at-preserved : goal.loop-at-preserved
-loop-at-preserved c = let a = c.args in
+loop-at-preserved c =
+    let a = c.args in
     let l = c.loop-at in
     let end = c.block_end-end.ensures in
     rw end (
@@ -31,5 +34,6 @@ loop-at-preserved c = let a = c.args in
     )
 
 pub returns : goal.returns
-returns c = let l = c.loop-at in
+returns c =
+    let l = c.loop-at in
     walk_ends _ _ _ _ _ c.loop-at-test.false ∙ sym l.invariant.1

@@ -11,15 +11,18 @@ use native.Mathlib.Omega.{arith}
 use Rattle.cutting.proofs.lay.Goals as goal
 
 pub slice_bounds-block-count : goal.slice_bounds-block-count
-slice_bounds-block-count c = let a = c.args in
+slice_bounds-block-count c =
+    let a = c.args in
     omega (arith, c.block_end-next.ensures, end_from_law a.number (length a.message.now) a.at)
 
 pub slice_bounds-block-start : goal.slice_bounds-block-start
-slice_bounds-block-start c = let a = c.args in
+slice_bounds-block-start c =
+    let a = c.args in
     omega (arith, c.block_end-next.ensures, end_from_law a.number (length a.message.now) a.at)
 
 pub slice_bounds-block-end : goal.slice_bounds-block-end
-slice_bounds-block-end c = let a = c.args in
+slice_bounds-block-end c =
+    let a = c.args in
     omega (
       arith,
       c.block_end-next.ensures,
@@ -31,7 +34,8 @@ unfolding MESSAGE_MAX
 overflow_cast-total c = search rules
 
 pub returns-then-is_first : goal.returns-then-is_first
-returns-then-is_first c = let part : take (c.block_end-next.result - c.args.at)
+returns-then-is_first c =
+    let part : take (c.block_end-next.result - c.args.at)
     (drop c.args.at c.args.message.now)
     ≡ block c.args.number c.args.message.now
     c.args.at = part_block _ _ _ _ c.block_end-next.ensures in
@@ -40,7 +44,8 @@ returns-then-is_first c = let part : take (c.block_end-next.result - c.args.at)
     (record { value = simp (lay.value, c.block_end-next.ensures); out_after = lay.out_after })
 
 pub returns : goal.returns
-returns c = let part : take (c.block_end-next.result - c.args.at)
+returns c =
+    let part : take (c.block_end-next.result - c.args.at)
     (drop c.args.at c.args.message.now)
     ≡ block c.args.number c.args.message.now
     c.args.at = part_block _ _ _ _ c.block_end-next.ensures in

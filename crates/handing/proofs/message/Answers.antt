@@ -11,13 +11,15 @@ use Rattle.handing.proofs.message.Goals as goal
 
 pub returns-then-most-at : goal.returns-then-most-at
 unfolding handed_up PART MESSAGE_LINE_MAX
-returns-then-most-at c = let a = c.args in
+returns-then-most-at c =
+    let a = c.args in
     let did = c.message_line.ensures in
     rw (no_part a.store.now a.at a.len c.if-most-at.true) (record { value = did.value; out_after = did.out_after })
 
 pub returns : goal.returns
 unfolding handed_up PART MESSAGE_MAX MESSAGE_LINE_MAX
-returns c = let a = c.args in
+returns c =
+    let a = c.args in
     let start : 4096 * a.at ≡ min (4096 * a.at) (length a.store.now) = omega (arith, c.if-most-at.false) in
     let end = ap (λ (x : ℕ). 4096 * a.at + x) (rw c.lesser-n.ensures at c.lesser.ensures) in
     let lent = message_lent a.store.now a.at a.len (4096 * a.at) _ start end in

@@ -31,7 +31,8 @@ returns-in-Held c = rw c.in-Held.is (record { value = (refl, omega arith); out_a
 
 pub returns-in-Message : goal.returns-in-Message
 unfolding message_said
-returns-in-Message c = let did = c.message.ensures in
+returns-in-Message c =
+    let did = c.message.ensures in
     rw c.in-Message.is (record { value = did.value; out_after = did.out_after })
 
 pub returns-in-Closed : goal.returns-in-Closed

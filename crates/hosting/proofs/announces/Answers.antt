@@ -5,5 +5,6 @@ use Rattle.hosting.proofs.announces.Goals as goal
 
 pub returns : goal.returns
 unfolding announced
-returns c = let bytes = c.args.bytes.now in
+returns c =
+    let bytes = c.args.bytes.now in
     rw (c.lesser-end.ensures, take_least 2 bytes) at c.number.ensures

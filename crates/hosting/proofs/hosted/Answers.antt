@@ -9,13 +9,15 @@ use Rattle.hosting.proofs.hosted.Goals as goal
 
 pub returns-then-announced-eq-REQUEST : goal.returns-then-announced-eq-REQUEST
 unfolding hosted
-returns-then-announced-eq-REQUEST c = let did = c.requests.ensures in
+returns-then-announced-eq-REQUEST c =
+    let did = c.requests.ensures in
     let yes = rw c.announces-announced.ensures at c.if-announced-eq-REQUEST.true in
     rw (eq-eqb _ _ yes) (record { value = did.value; store_after = refl; buffer_after = did.buffer_after })
 
 pub returns-then-announced-eq-OPEN : goal.returns-then-announced-eq-OPEN
 unfolding hosted
-returns-then-announced-eq-OPEN c = let did = c.opens.ensures in
+returns-then-announced-eq-OPEN c =
+    let did = c.opens.ensures in
     let it = c.announces-announced.ensures in
     let yes = rw it at c.if-announced-eq-OPEN.true in
     let no = rw it at c.if-announced-eq-REQUEST.false in
@@ -23,7 +25,8 @@ returns-then-announced-eq-OPEN c = let did = c.opens.ensures in
 
 pub returns-then-announced-eq-CLOSE : goal.returns-then-announced-eq-CLOSE
 unfolding hosted
-returns-then-announced-eq-CLOSE c = let it = c.announces-announced.ensures in
+returns-then-announced-eq-CLOSE c =
+    let it = c.announces-announced.ensures in
     let a = c.args in
     let number = c.number-number.ensures ∙ ap value_of (rest_lent a.bytes.now 2 _ c.lesser-from.ensures) in
     let no = rw it at c.if-announced-eq-REQUEST.false in
@@ -34,7 +37,8 @@ returns-then-announced-eq-CLOSE c = let it = c.announces-announced.ensures in
 
 pub returns : goal.returns
 unfolding hosted pdu_in
-returns c = let it = c.announces-announced.ensures in
+returns c =
+    let it = c.announces-announced.ensures in
     let a = c.args in
     let no = rw it at c.if-announced-eq-REQUEST.false in
     let no2 = rw it at c.if-announced-eq-OPEN.false in

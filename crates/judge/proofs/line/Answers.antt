@@ -16,7 +16,8 @@ returns-in-Yes c = rw c.in-Yes.is (record { value = (c.text.ensures.value, omega
 
 pub returns-in-No : goal.returns-in-No
 unfolding judgement_line
-returns-in-No c = let out = c.args.out.now in
+returns-in-No c =
+    let out = c.args.out.now in
     let no = c.text-said.ensures in
     let number = c.field.ensures in
     let word = c.word.ensures in

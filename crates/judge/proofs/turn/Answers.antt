@@ -7,7 +7,8 @@ use Rattle.judge.proofs.turn.Goals as goal
 
 pub returns : goal.returns
 unfolding turned rest_of
-returns c = let a = c.args in
+returns c =
+    let a = c.args in
     let input = a.input.now in
     let walked = c.walk-walked.ensures in
     let long = ap length c.to_front.ensures ∙ length_laid input 0 _ in

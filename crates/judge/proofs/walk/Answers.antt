@@ -20,7 +20,8 @@ pub slice_bounds-whole-end : goal.slice_bounds-whole-end
 slice_bounds-whole-end c = omega (arith, c.loop-at.invariant.0)
 
 pub overflow_add-end : goal.overflow_add-end
-overflow_add-end c = let in_front : let n = c.whole-n.result in
+overflow_add-end c =
+    let in_front : let n = c.whole-n.result in
     let input = c.args.input.now in
     (n ≡ whole_of (drop c.loop-at.at input)) × ((LENGTH ≤ n) × (c.loop-at.at + n ≤ length input)) = let at = c.loop-at.at in
     let input = c.args.input.now in
@@ -33,7 +34,8 @@ overflow_add-end c = let in_front : let n = c.whole-n.result in
     omega (arith, in_front)
 
 pub overflow_add-at : goal.overflow_add-at
-overflow_add-at c = let in_front : let n = c.whole-n.result in
+overflow_add-at c =
+    let in_front : let n = c.whole-n.result in
     let input = c.args.input.now in
     (n ≡ whole_of (drop c.loop-at.at input)) × ((LENGTH ≤ n) × (c.loop-at.at + n ≤ length input)) = let at = c.loop-at.at in
     let input = c.args.input.now in
@@ -46,7 +48,8 @@ overflow_add-at c = let in_front : let n = c.whole-n.result in
     omega (arith, in_front)
 
 pub slice_bounds-judge-count : goal.slice_bounds-judge-count
-slice_bounds-judge-count c = let in_front : let n = c.whole-n.result in
+slice_bounds-judge-count c =
+    let in_front : let n = c.whole-n.result in
     let input = c.args.input.now in
     (n ≡ whole_of (drop c.loop-at.at input)) × ((LENGTH ≤ n) × (c.loop-at.at + n ≤ length input)) = let at = c.loop-at.at in
     let input = c.args.input.now in
@@ -59,7 +62,8 @@ slice_bounds-judge-count c = let in_front : let n = c.whole-n.result in
     omega (arith, in_front)
 
 pub slice_bounds-judge-start : goal.slice_bounds-judge-start
-slice_bounds-judge-start c = let in_front : let n = c.whole-n.result in
+slice_bounds-judge-start c =
+    let in_front : let n = c.whole-n.result in
     let input = c.args.input.now in
     (n ≡ whole_of (drop c.loop-at.at input)) × ((LENGTH ≤ n) × (c.loop-at.at + n ≤ length input)) = let at = c.loop-at.at in
     let input = c.args.input.now in
@@ -72,7 +76,8 @@ slice_bounds-judge-start c = let in_front : let n = c.whole-n.result in
     omega (arith, in_front)
 
 pub slice_bounds-judge-end : goal.slice_bounds-judge-end
-slice_bounds-judge-end c = let in_front : let n = c.whole-n.result in
+slice_bounds-judge-end c =
+    let in_front : let n = c.whole-n.result in
     let input = c.args.input.now in
     (n ≡ whole_of (drop c.loop-at.at input)) × ((LENGTH ≤ n) × (c.loop-at.at + n ≤ length input)) = let at = c.loop-at.at in
     let input = c.args.input.now in
@@ -85,7 +90,8 @@ slice_bounds-judge-end c = let in_front : let n = c.whole-n.result in
     omega (arith, in_front)
 
 pub loop-at-smaller : goal.loop-at-smaller
-loop-at-smaller c = let in_front : let n = c.whole-n.result in
+loop-at-smaller c =
+    let in_front : let n = c.whole-n.result in
     let input = c.args.input.now in
     (n ≡ whole_of (drop c.loop-at.at input)) × ((LENGTH ≤ n) × (c.loop-at.at + n ≤ length input)) = let at = c.loop-at.at in
     let input = c.args.input.now in
@@ -98,7 +104,8 @@ loop-at-smaller c = let in_front : let n = c.whole-n.result in
     omega (arith, in_front)
 
 pub loop-at-preserved : goal.loop-at-preserved
-loop-at-preserved c = let in_front : let n = c.whole-n.result in
+loop-at-preserved c =
+    let in_front : let n = c.whole-n.result in
     let input = c.args.input.now in
     (n ≡ whole_of (drop c.loop-at.at input)) × ((LENGTH ≤ n) × (c.loop-at.at + n ≤ length input)) = let at = c.loop-at.at in
     let input = c.args.input.now in
@@ -119,14 +126,16 @@ loop-at-preserved c = let in_front : let n = c.whole-n.result in
     (goes_on_law whole_framing pdu_in judge a.course input l.next l.at n l.invariant front.0 (omega (arith, front)) front.1.1)
 
 pub returns-after-loop-at : goal.returns-after-loop-at
-returns-after-loop-at c = let l = c.loop-at in
+returns-after-loop-at c =
+    let l = c.loop-at in
     let a = c.args in
     let input = a.input.now in
     let none : whole_of (drop l.at input) ≡ 0 = omega (arith, (whole_fits (drop l.at input)).0, length-drop l.at input, c.loop-at-test.false) in
     let both = ends whole_framing pdu_in (course_after a.number a.message.now) a.course input l.next l.at l.invariant none in record { course_value = both.0; taken_value = both.1 }
 
 pub returns-then-n-eq0 : goal.returns-then-n-eq0
-returns-then-n-eq0 c = let l = c.loop-at in
+returns-then-n-eq0 c =
+    let l = c.loop-at in
     let a = c.args in
     let input = a.input.now in
     let none = sym (c.whole-n.ensures ∙ ap whole_of (to_end input l.at)) ∙ c.if-n-eq0.true in

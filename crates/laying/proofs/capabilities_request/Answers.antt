@@ -18,12 +18,14 @@ two_more n v front e = simp (length-append, length_bytes_of, sym e)
 
 pub returns-then-version-eq1 : goal.returns-then-version-eq1
 unfolding caps_request_bytes
-returns-then-version-eq1 c = let t = c.if-version-eq1.true in
+returns-then-version-eq1 c =
+    let t = c.if-version-eq1.true in
     simp (eq-eqb) (record { value = sym (length_caps_head c.args.version); out_after = c.caps_head.ensures })
 
 pub returns : goal.returns
 unfolding caps_request_bytes
-returns c = let a = c.args in
+returns c =
+    let a = c.args in
     let out = a.out.now in
     let t = c.if-version-eq1.false in
     let front = caps_head a.version in

@@ -10,6 +10,7 @@ use Rattle.laying.proofs.caps_head.Goals as goal
 
 pub returns : goal.returns
 unfolding caps_head
-returns c = let a = c.args in
+returns c =
+    let a = c.args in
     laid_next a.out.now _ _ (16 * CAPABILITIES ∷ 0 ∷ []) (bytes_of 2 a.version) 2 refl
     c.copy.ensures c.short.ensures

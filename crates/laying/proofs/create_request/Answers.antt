@@ -18,7 +18,8 @@ overflow_add-result c = omega (arith, c.head-at.ensures.value, head_le CREATE c.
 
 pub returns : goal.returns
 unfolding create_request_bytes
-returns c = let a = c.args in
+returns c =
+    let a = c.args in
     let h = c.head-at.ensures in
     let front = head_of CREATE a.class a.number in
     let end = ap (λ (n : ℕ). n + length a.name.now) h.value ∙ sym (length-append front a.name.now) in

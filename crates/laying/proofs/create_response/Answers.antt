@@ -18,7 +18,8 @@ overflow_add-result c = omega (arith, c.head-at.ensures.value, head_le CREATE 0 
 
 pub returns : goal.returns
 unfolding create_response_bytes
-returns c = let a = c.args in
+returns c =
+    let a = c.args in
     let h = c.head-at.ensures in
     let status = c.status_bytes-bytes.ensures ∙ ap status_bytes (to_z-of_z {w = w32} c.ranges.status) in
     let four = c.copy_at.ensures ∙ ap (laid c.head-at.new.out c.head-at.result)

@@ -12,7 +12,8 @@ overflow_add-result c = omega (arith, c.head-at.ensures.value, head_le DATA 0 c.
 
 pub returns : goal.returns
 unfolding data_bytes
-returns c = let a = c.args in
+returns c =
+    let a = c.args in
     let h = c.head-at.ensures in
     record {
       value = simp (length-append, h.value);

@@ -18,7 +18,8 @@ overflow_add-result c = omega (
 
 pub returns : goal.returns
 unfolding data_first_bytes
-returns c = let a = c.args in
+returns c =
+    let a = c.args in
     let h = c.first_head-at.ensures in
     record {
       value = simp (length-append, h.value);

@@ -14,6 +14,7 @@ overflow_add-result c = omega (arith, c.head-at.ensures.value, head_le DATA_FIRS
 
 pub returns : goal.returns
 unfolding data_first_head
-returns c = let a = c.args in
+returns c =
+    let a = c.args in
     let h = rw c.code.ensures at c.head-at.ensures in
     record { value = simp (length-append, h.value, c.narrowed.ensures.value); out_after = laid_next a.out.now _ _ (head_of DATA_FIRST (code_for a.length) a.number) (narrow_bytes a.length) _ h.value h.out_after c.narrowed.ensures.out_after }

@@ -18,7 +18,8 @@ overflow_add-result c = omega (arith, c.narrowed.ensures.value, length_narrow c.
 
 pub returns : goal.returns
 unfolding head_of
-returns c = let a = c.args in
+returns c =
+    let a = c.args in
     let first = 16 * (a.cmd % 16) + 4 * (a.middle % 4) + code_for a.number in
     let laid_first = c.copy.ensures ∙ ap (λ (code : ℕ). laid a.out.now 0 ((16 * (a.cmd % 16) + 4 * (a.middle % 4) + code) ∷ [])) c.code.ensures in
     record { value = ap (λ (n : ℕ). 1 + n) c.narrowed.ensures.value ∙ omega arith; out_after = laid_next a.out.now _ _ (first ∷ []) (narrow_bytes a.number) 1 refl laid_first c.narrowed.ensures.out_after }

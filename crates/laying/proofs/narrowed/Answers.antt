@@ -7,6 +7,7 @@ use Rattle.laying.proofs.narrowed.Goals as goal
 
 pub returns : goal.returns
 unfolding narrow_bytes
-returns c = let a = c.args in
+returns c =
+    let a = c.args in
     let width = c.narrow-width.ensures in
     record { value = width ∙ sym (length_narrow a.value); out_after = c.put.ensures ∙ ap (laid a.out.now a.at) (rw width (low_bytes (narrowest a.value) 4 a.value (narrowest_le a.value))) }

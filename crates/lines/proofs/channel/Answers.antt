@@ -9,4 +9,4 @@ returns-in-NoChannel c = rw c.in-NoChannel.is (record { value = (c.text.ensures.
 
 pub returns-in-Channel : goal.returns-in-Channel
 unfolding channel_field
-returns-in-Channel c = rw c.in-Channel.is c.field.ensures  -- TODO record value out_after
+returns-in-Channel c = rw c.in-Channel.is c.field.ensures

@@ -15,7 +15,8 @@ overflow_add-result c = omega (
 
 pub returns : goal.returns
 unfolding cut_line_of
-returns c = let a = c.args in
+returns c =
+    let a = c.args in
     let placed = c.field-placed.ensures in
     let worded = c.text.ensures in
     record { value = (ends (field a.place SPACE) _ placed.value.0 worded.value, omega (arith, placed.value.1, worded.value)); out_after = laid_next a.out.now _ _ (field a.place SPACE) _ _ placed.value.0 placed.out_after worded.out_after }

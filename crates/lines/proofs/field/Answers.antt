@@ -9,7 +9,8 @@ use native.Mathlib.Omega.{arith}
 use Rattle.lines.proofs.field.Goals as goal
 
 pub returns : goal.returns
-returns c = let a = c.args in
+returns c =
+    let a = c.args in
     let spelt = c.spelled-spelled.ensures in
     let found = c.spelled-spelled.result in
     let long : 21 - found.start ≡ length (field a.n a.end) = rw (← spelt.2) (rw (length-drop, spelt.1)) in

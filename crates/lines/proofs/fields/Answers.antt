@@ -9,7 +9,8 @@ use Rattle.lines.proofs.fields.Goals as goal
 
 pub returns : goal.returns
 unfolding answer_fields
-returns c = let a = c.args in
+returns c =
+    let a = c.args in
     let out = a.out.now in
     let f1 = word_field (word_of a.answer) in
     let f2 = channel_field (concern_of a.answer) in

@@ -1,6 +1,7 @@
 use mathlib.Core.Path.{ap, ◌∙◌}
 use Rattle.paper.specs.Sizes.{MESSAGE_MAX}
 use Rattle.lists.specs.Bytes.{laid}
+use Rattle.lists.proofs.Laid.{laid_least}
 use Rattle.lines.proofs.Spelling.{length_hex, spelling_first, spelling_on, spelling_last}
 use native.Mathlib.Omega.{arith}
 use Rattle.lines.proofs.hex.Goals as goal
@@ -14,11 +15,16 @@ unfolding MESSAGE_MAX
 overflow_add-end c = omega arith
 
 pub loop-i-preserved : goal.loop-i-preserved
-loop-i-preserved c = let l = c.loop-i in
+loop-i-preserved c =
+    let l = c.loop-i in
     let laid_here = c.copy_at.ensures ∙ ap (laid l.out l.end) c.hex_byte-digits.ensures in
     spelling_on l.invariant (omega arith) laid_here
 
 pub returns : goal.returns
-returns c = let l = c.loop-i in
+returns c =
+    let l = c.loop-i in
     let long = length_hex c.args.bytes.now in
-    record { value = (omega arith, omega arith); out_after = spelling_last l.invariant (omega arith) }
+    record {
+      value = (omega arith, omega arith);
+      out_after = spelling_last l.invariant (omega arith) ∙ rw c.lesser-from.ensures (laid_least c.args.out.now c.args.at _);
+    }

@@ -8,7 +8,8 @@ use Rattle.lines.proofs.line.Goals as goal
 
 pub returns : goal.returns
 unfolding line_of
-returns c = let a = c.args in
+returns c =
+    let a = c.args in
     let f1 = field a.place SPACE in
     let f2 = answer_fields a.answer a.sent LF in
     let p1 = c.field-placed.ensures in

@@ -20,7 +20,8 @@ overflow_add-result c = omega (arith, c.field-placed.ensures.value.1, c.field.en
 
 pub returns : goal.returns
 unfolding message_line_of MESSAGE_LINE_MAX MESSAGE_MAX
-returns c = let a = c.args in
+returns c =
+    let a = c.args in
     let out = a.out.now in
     let f1 = field a.place SPACE in
     let f2 = field a.number SPACE in

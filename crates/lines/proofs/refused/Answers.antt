@@ -14,7 +14,8 @@ overflow_add-from c = omega (arith, c.text-worded.ensures.value, c.lesser-from.e
 
 pub returns : goal.returns
 unfolding refused_line word_field
-returns c = let a = c.args in
+returns c =
+    let a = c.args in
     let out = a.out.now in
     let word = c.text-worded.ensures in
     let number = c.field.ensures in

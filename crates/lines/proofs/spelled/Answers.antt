@@ -12,15 +12,18 @@ unfolding field
 loop-rest-init c = (omega arith, omega arith, refl, omega arith, refl)
 
 pub overflow_sub-i-in-loop-rest : goal.overflow_sub-i-in-loop-rest
-overflow_sub-i-in-loop-rest c = let l = c.loop-rest in
+overflow_sub-i-in-loop-rest c =
+    let l = c.loop-rest in
     omega (arith, (tenth l.rest l.i c.loop-rest-test.true l.invariant.3).0)
 
 pub bounds-bytes-i : goal.bounds-bytes-i
-bounds-bytes-i c = let l = c.loop-rest in
+bounds-bytes-i c =
+    let l = c.loop-rest in
     omega (arith, l.invariant.2)
 
 pub loop-rest-preserved : goal.loop-rest-preserved
-loop-rest-preserved c = let l = c.loop-rest in
+loop-rest-preserved c =
+    let l = c.loop-rest in
     let less = tenth l.rest l.i c.loop-rest-test.true l.invariant.3 in
     let put = drop_set l.bytes (l.i - 1) (48 + l.rest % 10) (omega arith) in
     let back : l.i - 1 + 1 ≡ l.i = omega arith in
@@ -34,7 +37,8 @@ loop-rest-preserved c = let l = c.loop-rest in
     )
 
 pub returns : goal.returns
-returns c = let l = c.loop-rest in
+returns c =
+    let l = c.loop-rest in
     let put = drop_set l.bytes (l.i - 1) (48 + l.rest) (omega arith) in
     let back : l.i - 1 + 1 ≡ l.i = omega arith in
     let one = decimal_one l.rest (omega arith) in

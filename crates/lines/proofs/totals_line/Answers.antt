@@ -9,7 +9,8 @@ use Rattle.lines.proofs.totals_line.Goals as goal
 
 pub returns : goal.returns
 unfolding totals_line_of
-returns c = let a = c.args in
+returns c =
+    let a = c.args in
     let out = a.out.now in
     let f1 = field a.place SPACE in
     let f2 = field a.channels SPACE in

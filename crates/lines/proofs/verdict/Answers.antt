@@ -6,9 +6,10 @@ use Rattle.lines.proofs.verdict.Goals as goal
 
 pub returns-then-refusal-eq0 : goal.returns-then-refusal-eq0
 unfolding verdict_field
-returns-then-refusal-eq0 c = let none = c.if-refusal-eq0.true in
+returns-then-refusal-eq0 c =
+    let none = c.if-refusal-eq0.true in
     rw (eq-eqb _ 0 none) (record { value = (c.text.ensures.value, omega (arith, c.text.ensures.value)); out_after = c.text.ensures.out_after })
 
 pub returns : goal.returns
 unfolding verdict_field
-returns c = rw (ne_eqb _ 0 c.if-refusal-eq0.false) c.refused.ensures  -- TODO record value out_after
+returns c = rw (ne_eqb _ 0 c.if-refusal-eq0.false) c.refused.ensures

@@ -7,7 +7,8 @@ use Rattle.linking.proofs.dropped.Goals as goal
 
 pub returns : goal.returns
 unfolding dropped STEP_MAX CALL_MAX MESSAGE_LINE_MAX MESSAGE_MAX
-returns c = let line = c.dropped_line-laid.ensures in
+returns c =
+    let line = c.dropped_line-laid.ensures in
     let made = c.start-ends.ensures in
     λ ends.
     record {

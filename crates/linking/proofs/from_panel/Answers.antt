@@ -11,7 +11,8 @@ use Rattle.linking.proofs.from_panel.Goals as goal
 
 pub returns-then-n-eq0 : goal.returns-then-n-eq0
 unfolding from_panel STORE PARTS PART
-returns-then-n-eq0 c = let a = c.args in
+returns-then-n-eq0 c =
+    let a = c.args in
     let store = a.store.now in
     let text = rw (panel_lent store _ c.lesser-half.ensures) at c.panel_text-told.ensures in
     let twice : 2 * CALL_MAX ≡ CALL_MAX + CALL_MAX = omega arith in
@@ -24,7 +25,8 @@ overflow_add-result c = omega (arith, c.to_shore-crossed.ensures.fits, c.panel_t
 
 pub returns : goal.returns
 unfolding from_panel STORE PARTS PART
-returns c = let a = c.args in
+returns c =
+    let a = c.args in
     let store = a.store.now in
     let text = rw (panel_lent store _ c.lesser-half.ensures) at c.panel_text-told.ensures in
     let twice : 2 * CALL_MAX ≡ CALL_MAX + CALL_MAX = omega arith in

@@ -8,7 +8,8 @@ use Rattle.linking.proofs.host_sends.Goals as goal
 
 pub returns : goal.returns
 unfolding host_sends message_in
-returns c = let a = c.args in
+returns c =
+    let a = c.args in
     let bytes = a.bytes.now in
     let number = c.number-number.ensures ∙ ap value_of (rest_lent bytes 1 c.lesser-lead.result c.lesser-lead.ensures) in
     let count = rw c.count_in.ensures at c.lesser-count.ensures in

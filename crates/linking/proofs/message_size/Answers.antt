@@ -7,5 +7,6 @@ use Rattle.linking.proofs.message_size.Goals as goal
 
 pub returns : goal.returns
 unfolding message_length
-returns c = let a = c.args in
+returns c =
+    let a = c.args in
     c.number.ensures ∙ ap value_of (part_lent a.bytes.now 5 2 _ _ c.lesser-start.ensures c.lesser-end.ensures)

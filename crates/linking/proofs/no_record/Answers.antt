@@ -8,7 +8,8 @@ use Rattle.linking.proofs.no_record.Goals as goal
 
 pub returns : goal.returns
 unfolding no_record STEP_MAX CALL_MAX MESSAGE_LINE_MAX MESSAGE_MAX
-returns c = let did = c.bad_line-laid.ensures in
+returns c =
+    let did = c.bad_line-laid.ensures in
     λ store. (
       refl,
       record {

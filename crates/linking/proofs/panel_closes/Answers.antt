@@ -7,7 +7,8 @@ use Rattle.linking.proofs.panel_closes.Goals as goal
 
 pub returns : goal.returns
 unfolding panel_closes zeros REPLY_MIN STORE PARTS PART
-returns c = let a = c.args in
+returns c =
+    let a = c.args in
     let store = a.store.now in
     let h = c.lesser-half.result in
     let half = c.lesser-half.ensures in

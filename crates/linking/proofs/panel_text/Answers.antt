@@ -17,7 +17,8 @@ overflow_add-result c = omega (arith, c.of_answer.ensures.value.1, c.line.ensure
 
 pub returns : goal.returns
 unfolding panel_text CALL_MAX MESSAGE_LINE_MAX MESSAGE_MAX
-returns c = let a = c.args in
+returns c =
+    let a = c.args in
     let out = a.out.now in
     let f1 = end_field Panel in
     let f2 = line_of a.place a.received.answer a.received.sent in

@@ -30,7 +30,8 @@ pub loop-left-smaller : goal.loop-left-smaller
 loop-left-smaller c = omega (arith, c.loop-left-test.true)
 
 pub loop-left-preserved : goal.loop-left-preserved
-loop-left-preserved c = let some = c.loop-left-test.true in
+loop-left-preserved c =
+    let some = c.loop-left-test.true in
     let l = c.loop-left in
     let did = c.send_one-sent.ensures in
     let lines = over l.out _ _ l.used c.lesser-start.result c.lesser-start.ensures did.1.lines in
@@ -38,12 +39,14 @@ loop-left-preserved c = let some = c.loop-left-test.true in
 
 pub returns-after-loop-left : goal.returns-after-loop-left
 unfolding STEP_MAX CALL_MAX MESSAGE_LINE_MAX MESSAGE_MAX
-returns-after-loop-left c = let l = c.loop-left in
+returns-after-loop-left c =
+    let l = c.loop-left in
     stopped _ _ _ _ l.left l.next l.store (rw (none_left _ _ _ _ _ l.at (with_store l.next l.store) l.left (omega (arith, c.loop-left-test.false))) at l.invariant.1)
 
 pub returns-then-message-at : goal.returns-then-message-at
 unfolding STEP_MAX CALL_MAX MESSAGE_LINE_MAX MESSAGE_MAX
-returns-then-message-at c = let some = c.loop-left-test.true in
+returns-then-message-at c =
+    let some = c.loop-left-test.true in
     let l = c.loop-left in
     let did = c.send_one-sent.ensures in
     let lines = over l.out _ _ l.used c.lesser-start.result c.lesser-start.ensures did.1.lines in

@@ -11,7 +11,8 @@ use Rattle.linking.proofs.send_one.Goals as goal
 
 pub returns-in-Pdu : goal.returns-in-Pdu
 unfolding sends_one sends_piece zeros PDU_MAX
-returns-in-Pdu c = let got = c.cut.ensures in
+returns-in-Pdu c =
+    let got = c.cut.ensures in
     let buffer = c.cut.new.out in
     let len = c.lesser-n.ensures in
     let n : c.lesser-n.result ≡ min c.in-Pdu.len (length buffer) = omega (arith, len, c.cut.auto.out) in
@@ -21,7 +22,8 @@ returns-in-Pdu c = let got = c.cut.ensures in
 
 pub returns-in-Refused : goal.returns-in-Refused
 unfolding sends_one sends_piece zeros PDU_MAX
-returns-in-Refused c = let piece = sym c.cut.ensures.value ∙ c.in-Refused.is in
+returns-in-Refused c =
+    let piece = sym c.cut.ensures.value ∙ c.in-Refused.is in
     let did = c.unsent-laid.ensures in
     rw piece (
       refl,

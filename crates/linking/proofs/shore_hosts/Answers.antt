@@ -13,7 +13,8 @@ use Rattle.linking.proofs.shore_hosts.Goals as goal
 
 pub returns-then-n-eq0 : goal.returns-then-n-eq0
 unfolding shore_hosts host_called zeros PDU_MAX STORE PARTS PART
-returns-then-n-eq0 c = let a = c.args in
+returns-then-n-eq0 c =
+    let a = c.args in
     let store = a.store.now in
     let h = c.lesser-half.result in
     let half = c.lesser-half.ensures in
@@ -33,7 +34,8 @@ overflow_add-result c = omega (arith, c.to_panel-crossed.ensures.fits, c.shore_t
 
 pub returns : goal.returns
 unfolding shore_hosts host_called zeros PDU_MAX STORE PARTS PART
-returns c = let a = c.args in
+returns c =
+    let a = c.args in
     let store = a.store.now in
     let h = c.lesser-half.result in
     let half = c.lesser-half.ensures in

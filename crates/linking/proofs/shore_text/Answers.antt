@@ -17,7 +17,8 @@ overflow_add-result c = omega (arith, c.of_said.ensures.value.1, c.desk_line.ens
 
 pub returns : goal.returns
 unfolding shore_text CALL_MAX MESSAGE_LINE_MAX MESSAGE_MAX
-returns c = let a = c.args in
+returns c =
+    let a = c.args in
     let out = a.out.now in
     let f1 = end_field Shore in
     let f2 = desk_line_of a.place a.given.said a.given.sent in

@@ -5,12 +5,12 @@ use Rattle.client.specs.Client.{started}
 use Rattle.shore.specs.Shore.{started as shoreStarted}
 use Rattle.linking.specs.Linking.{both_started}
 use Rattle.linking.proofs.Crossing.{panel_lent, second_lent, second_back}
-use Rattle.shore.proofs.start.Reads as start-reads'
 use Rattle.linking.proofs.start.Goals as goal
 
 pub returns : goal.returns
 unfolding both_started started shoreStarted STORE PARTS PART
-returns c = let a = c.args in
+returns c =
+    let a = c.args in
     let store = a.store.now in
     let h = c.lesser-half.result in
     let half = c.lesser-half.ensures in

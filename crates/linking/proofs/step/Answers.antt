@@ -12,7 +12,8 @@ use Rattle.linking.proofs.step.Goals as goal
 
 pub returns-then-not-is_host : goal.returns-then-not-is_host
 unfolding link_step no_record
-returns-then-not-is_host c = let it = c.lead_of-lead.ensures in
+returns-then-not-is_host c =
+    let it = c.lead_of-lead.ensures in
     let a = c.args in
     let bytes = a.bytes.now in
     let rest = rest_lent bytes 1 c.lesser-from.result c.lesser-from.ensures in
@@ -22,7 +23,8 @@ returns-then-not-is_host c = let it = c.lead_of-lead.ensures in
 
 pub returns-then-lead-eq-AT_SHORE : goal.returns-then-lead-eq-AT_SHORE
 unfolding link_step STEP_MAX CALL_MAX MESSAGE_LINE_MAX MESSAGE_MAX
-returns-then-lead-eq-AT_SHORE c = let it = c.lead_of-lead.ensures in
+returns-then-lead-eq-AT_SHORE c =
+    let it = c.lead_of-lead.ensures in
     let a = c.args in
     let bytes = a.bytes.now in
     let rest = rest_lent bytes 1 c.lesser-from.result c.lesser-from.ensures in
@@ -32,7 +34,8 @@ returns-then-lead-eq-AT_SHORE c = let it = c.lead_of-lead.ensures in
 
 pub returns-then-lead-eq-PANEL_CLOSE : goal.returns-then-lead-eq-PANEL_CLOSE
 unfolding link_step STEP_MAX CALL_MAX MESSAGE_LINE_MAX MESSAGE_MAX
-returns-then-lead-eq-PANEL_CLOSE c = let it = c.lead_of-lead.ensures in
+returns-then-lead-eq-PANEL_CLOSE c =
+    let it = c.lead_of-lead.ensures in
     let a = c.args in
     let bytes = a.bytes.now in
     let rest = rest_lent bytes 1 c.lesser-from.result c.lesser-from.ensures in
@@ -43,7 +46,8 @@ returns-then-lead-eq-PANEL_CLOSE c = let it = c.lead_of-lead.ensures in
 
 pub returns-then-lead-eq-FROM_SHORE : goal.returns-then-lead-eq-FROM_SHORE
 unfolding link_step
-returns-then-lead-eq-FROM_SHORE c = let it = c.lead_of-lead.ensures in
+returns-then-lead-eq-FROM_SHORE c =
+    let it = c.lead_of-lead.ensures in
     let no1 = rw it at c.if-lead-eq-AT_SHORE.false in
     let no2 = rw it at c.if-lead-eq-PANEL_CLOSE.false in
     let yes = rw it at c.if-lead-eq-FROM_SHORE.true in
@@ -51,7 +55,8 @@ returns-then-lead-eq-FROM_SHORE c = let it = c.lead_of-lead.ensures in
 
 pub returns-then-lead-eq-FROM_PANEL : goal.returns-then-lead-eq-FROM_PANEL
 unfolding link_step
-returns-then-lead-eq-FROM_PANEL c = let it = c.lead_of-lead.ensures in
+returns-then-lead-eq-FROM_PANEL c =
+    let it = c.lead_of-lead.ensures in
     let no1 = rw it at c.if-lead-eq-AT_SHORE.false in
     let no2 = rw it at c.if-lead-eq-PANEL_CLOSE.false in
     let no3 = rw it at c.if-lead-eq-FROM_SHORE.false in
@@ -60,7 +65,8 @@ returns-then-lead-eq-FROM_PANEL c = let it = c.lead_of-lead.ensures in
 
 pub returns-then-lead-eq-DROPS : goal.returns-then-lead-eq-DROPS
 unfolding link_step
-returns-then-lead-eq-DROPS c = let it = c.lead_of-lead.ensures in
+returns-then-lead-eq-DROPS c =
+    let it = c.lead_of-lead.ensures in
     let a = c.args in
     let no1 = rw it at c.if-lead-eq-AT_SHORE.false in
     let no2 = rw it at c.if-lead-eq-PANEL_CLOSE.false in
@@ -71,7 +77,8 @@ returns-then-lead-eq-DROPS c = let it = c.lead_of-lead.ensures in
 
 pub returns : goal.returns
 unfolding link_step no_record
-returns c = let it = c.lead_of-lead.ensures in
+returns c =
+    let it = c.lead_of-lead.ensures in
     let a = c.args in
     let no1 = rw it at c.if-lead-eq-AT_SHORE.false in
     let no2 = rw it at c.if-lead-eq-PANEL_CLOSE.false in

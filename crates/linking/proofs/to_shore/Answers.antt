@@ -8,7 +8,8 @@ use Rattle.linking.proofs.to_shore.Goals as goal
 
 pub returns : goal.returns
 unfolding to_shore heard_by_shore zeros REPLY_MIN STORE PARTS PART
-returns c = let a = c.args in
+returns c =
+    let a = c.args in
     let store = a.store.now in
     let half = c.lesser-half.ensures in
     let h = c.lesser-half.result in

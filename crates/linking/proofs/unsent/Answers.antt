@@ -10,7 +10,8 @@ use Rattle.linking.proofs.unsent.Goals as goal
 
 pub returns : goal.returns
 unfolding unsent CALL_MAX MESSAGE_LINE_MAX MESSAGE_MAX
-returns c = let a = c.args in
+returns c =
+    let a = c.args in
     let f1 = end_field a.from in
     let f2 = desk_line_of a.place a.said 0 in
     let p1 = c.end_word-worded.ensures in

@@ -23,11 +23,13 @@ pub returns-then-not-is_lent : goal.returns-then-not-is_lent
 returns-then-not-is_lent c = let both = not_lent _ _ _ (sym c.is_lent.ensures.0 ∙ c.if-not-is_lent.true) in record { value = both.0; room_after = both.1 }
 
 pub fill-requires : goal.fill-requires
-fill-requires c = let size = lent_size c.args.log c.args.room.now (sym c.is_lent.ensures.0 ∙ c.if-not-is_lent.false) in
+fill-requires c =
+    let size = lent_size c.args.log c.args.room.now (sym c.is_lent.ensures.0 ∙ c.if-not-is_lent.false) in
     record { number_bound = (omega arith, (omega arith, omega arith)); in_bounds = (size, (omega (arith, size), c.requires)) }
 
 pub returns-then-log-eq0 : goal.returns-then-log-eq0
-returns-then-log-eq0 c = let a = c.args in
+returns-then-log-eq0 c =
+    let a = c.args in
     let none = begun_empty a.log.blocks (last_in a.log a.room.now) c.if-log-eq0.true in
     let fills = is_filled a.log a.room.now (a.head.now ++ a.body.now) 0 0 []
     (sym c.is_lent.ensures.0 ∙ c.if-not-is_lent.false)
@@ -37,14 +39,16 @@ returns-then-log-eq0 c = let a = c.args in
 
 pub first_touched-first-requires : goal.first_touched-first-requires
 unfolding last_in last_at
-first_touched-first-requires c = let a = c.args in
+first_touched-first-requires c =
+    let a = c.args in
     let lent = sym c.is_lent.ensures.0 ∙ c.if-not-is_lent.false in
     let last = lent_last a.log a.room.now lent c.if-log-eq0.false in
     rw (from_to a.room.now (BLOCK * (a.log.held - 1)) BLOCK)
     (c.if-log-eq0.false, (c.is_lent.ensures.1 (c.if-not-is_lent.false), last.1.1))
 
 pub fill-requires-2 : goal.fill-requires-2
-fill-requires-2 c = let a = c.args in
+fill-requires-2 c =
+    let a = c.args in
     let lent = sym c.is_lent.ensures.0 ∙ c.if-not-is_lent.false in
     let size = lent_size a.log a.room.now lent in
     let last = lent_last a.log a.room.now lent c.if-log-eq0.false in
@@ -52,7 +56,8 @@ fill-requires-2 c = let a = c.args in
 
 pub returns : goal.returns
 unfolding last_in last_at
-returns c = let a = c.args in
+returns c =
+    let a = c.args in
     let lent = sym c.is_lent.ensures.0 ∙ c.if-not-is_lent.false in
     let at = BLOCK * (a.log.held - 1) in
     let first = rw (from_to a.room.now at BLOCK) at c.first_touched-first.ensures in

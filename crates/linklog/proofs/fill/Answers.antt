@@ -6,7 +6,8 @@ use Rattle.linklog.proofs.Filling.{few_blocks, log_full, log_holds}
 use Rattle.linklog.proofs.fill.Goals as goal
 
 pub overflow_cast-blocks : goal.overflow_cast-blocks
-overflow_cast-blocks c = let a = c.args in
+overflow_cast-blocks c =
+    let a = c.args in
     omega (
       arith,
       few_blocks a.first.used (length a.head.now + length a.body.now) c.requires.number_bound.1.0 c.requires.in_bounds.1.1,
@@ -14,7 +15,8 @@ overflow_cast-blocks c = let a = c.args in
     )
 
 pub overflow_add-blocks : goal.overflow_add-blocks
-overflow_add-blocks c = let a = c.args in
+overflow_add-blocks c =
+    let a = c.args in
     omega (
       arith,
       few_blocks a.first.used (length a.head.now + length a.body.now) c.requires.number_bound.1.0 c.requires.in_bounds.1.1,
@@ -23,7 +25,8 @@ overflow_add-blocks c = let a = c.args in
     )
 
 pub returns-then-blocks-gt-BLOCKS_MAX : goal.returns-then-blocks-gt-BLOCKS_MAX
-returns-then-blocks-gt-BLOCKS_MAX c = let a = c.args in
+returns-then-blocks-gt-BLOCKS_MAX c =
+    let a = c.args in
     let both = log_full a.room.now a.from a.first.used a.head.now a.body.now c.requires.in_bounds.1.0 c.requires.number_bound.1.0 a.first.number
     a.first.place _ c.blocks_for-count.ensures c.if-blocks-gt-BLOCKS_MAX.true in record { value = both.0; room_after = both.1 }
 
@@ -31,6 +34,7 @@ pub put-requires : goal.put-requires
 put-requires c = record { used_bound = c.requires.number_bound.1; in_bounds = c.requires.in_bounds; body_bound = omega (arith, c.if-blocks-gt-BLOCKS_MAX.false, c.blocks_for-count.ensures) }
 
 pub returns : goal.returns
-returns c = let a = c.args in
+returns c =
+    let a = c.args in
     let both = log_holds a.room.now a.from a.first.used a.head.now a.body.now c.requires.in_bounds.1.0 c.requires.number_bound.1.0 a.first.number
     a.first.place _ c.blocks_for-count.ensures _ c.if-blocks-gt-BLOCKS_MAX.false c.put.ensures in record { value = both.0; room_after = both.1 }

@@ -8,12 +8,14 @@ pub returns-then-used-eq-PAYLOAD : goal.returns-then-used-eq-PAYLOAD
 returns-then-used-eq-PAYLOAD c = record { number_value = touches_new c.args.blocks _ c.requires.0 _ c.used-used.ensures c.if-used-eq-PAYLOAD.true; number_bound = (c.requires.1.0, (omega arith, omega arith)) }
 
 pub returns-then-place-eq-NONE : goal.returns-then-place-eq-NONE
-returns-then-place-eq-NONE c = let room = c.if-used-eq-PAYLOAD.false in
+returns-then-place-eq-NONE c =
+    let room = c.if-used-eq-PAYLOAD.false in
     let is = c.used-used.ensures in
     record { number_value = touches_first c.args.blocks _ c.requires.0 _ is room _ c.place-place.ensures c.if-place-eq-NONE.true; number_bound = (omega (arith, c.requires.1.0), (omega (arith, is, c.requires.1.1, room), omega (arith, is, c.requires.1.1))) }
 
 pub returns : goal.returns
-returns c = let room = c.if-used-eq-PAYLOAD.false in
+returns c =
+    let room = c.if-used-eq-PAYLOAD.false in
     let is = c.used-used.ensures in
     record { number_value = touches_later c.args.blocks _ c.requires.0 _ is room _ c.place-place.ensures c.if-place-eq-NONE.false; number_bound = (omega (arith, c.requires.1.0), (omega (arith, is, c.requires.1.1, room), search rules)) }
 

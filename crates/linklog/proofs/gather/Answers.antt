@@ -7,7 +7,8 @@ use Rattle.lists.proofs.Laid.{laid_next}
 use Rattle.linklog.proofs.gather.Goals as goal
 
 pub returns : goal.returns
-returns c = let a = c.args in
+returns c =
+    let a = c.args in
     let out = a.out.now in
     let two = laid_next out _ _ a.first.now a.second.now _ refl c.copy.ensures c.copy_at.ensures in
     let all = laid_next out _ _ _ a.third.now _ (sym (length-append a.first.now a.second.now)) two c.copy_at-2.ensures in

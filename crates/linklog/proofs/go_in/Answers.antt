@@ -22,7 +22,8 @@ below u p block e f may some =
 
 pub returns-then-place-eq-NONE : goal.returns-then-place-eq-NONE
 unfolding end_after
-returns-then-place-eq-NONE c = let a = c.args in
+returns-then-place-eq-NONE c =
+    let a = c.args in
     let none = none_begins a.room.now a.block.now (sym c.place-place.ensures ∙ c.if-place-eq-NONE.true) in
     record { value = rw none.0 c.seeking.ensures; room_after = none.1 }
 

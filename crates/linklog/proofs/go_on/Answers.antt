@@ -12,11 +12,13 @@ use Rattle.linklog.proofs.Entering.{joins}
 use Rattle.linklog.proofs.go_on.Goals as goal
 
 pub bring-requires : goal.bring-requires
-bring-requires c = let says = reader_says c.args.reader c.args.room.now c.requires.0 in
+bring-requires c =
+    let says = reader_says c.args.reader c.args.room.now c.requires.0 in
     omega (arith, says.0, says.1.0, says.1.1.0)
 
 pub overflow_add-held : goal.overflow_add-held
-overflow_add-held c = let says = reader_says c.args.reader c.args.room.now c.requires.0 in
+overflow_add-held c =
+    let says = reader_says c.args.reader c.args.room.now c.requires.0 in
     omega (arith, says.1.1.1, c.used-used.ensures, c.requires.1.1.1)
 
 -- the room, once the payload is laid, which has room for what is to be gone through

@@ -5,13 +5,15 @@ use Rattle.linklog.proofs.Walked.{through_none, through_some}
 use Rattle.linklog.proofs.go_through.Goals as goal
 
 pub returns-then-whole-eq0 : goal.returns-then-whole-eq0
-returns-then-whole-eq0 c = let a = c.args in
+returns-then-whole-eq0 c =
+    let a = c.args in
     let input = a.input.now in
     through_none input _ c.whole_records-whole.ensures.0 _ (rw (to_end input c.whole_records-whole.result) at c.is_stray-within.ensures)
     a.end a.number a.used c.if-whole-eq0.true
 
 pub returns : goal.returns
-returns c = let a = c.args in
+returns c =
+    let a = c.args in
     let input = a.input.now in
     through_some input _ c.whole_records-whole.ensures.0 _ (rw (to_end input c.whole_records-whole.result) at c.is_stray-within.ensures)
     a.end a.number a.used _ c.if-whole-eq0.false (omega (arith, c.lesser.ensures))

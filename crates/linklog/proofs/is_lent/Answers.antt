@@ -23,6 +23,7 @@ returns-then-log-gt-HELD_MAX c = (over_held _ _ c.if-room-lt-ROOM.false c.if-log
 
 pub returns : goal.returns
 unfolding last_in last_at
-returns c = let room = c.args.room.now in
+returns c =
+    let room = c.args.room.now in
     let told = rw (from_to room (BLOCK * (c.args.log.held - 1)) BLOCK) at c.may_be_last.ensures in
     (told.0 ∙ held _ _ c.if-room-lt-ROOM.false c.if-log-eq0.false c.if-log-lt1.false c.if-log-gt-HELD_MAX.false, told.1)

@@ -6,7 +6,8 @@ use Rattle.linklog.proofs.Filling.{few_blocks, size_in_hand, gathered}
 use Rattle.linklog.proofs.put.Goals as goal
 
 pub gather-requires : goal.gather-requires
-gather-requires c = let a = c.args in
+gather-requires c =
+    let a = c.args in
     rw (length-take (a.from + a.first.used - a.from) (drop a.from a.room.now)) (omega (arith, c.requires.used_bound.0, c.requires.in_bounds.1.1))
 
 pub chain-requires : goal.chain-requires

@@ -10,7 +10,8 @@ pub slice_bounds-block-end-2 : goal.slice_bounds-block-end-2
 slice_bounds-block-end-2 c = sym (length-take-le 512 c.args.room.now (omega (arith, c.requires.0)))
 
 pub returns-then-place-used : goal.returns-then-place-used
-returns-then-place-used c = let a = c.args in
+returns-then-place-used c =
+    let a = c.args in
     let room = a.room.now in
     let pre = c.requires in
     made_anew room a.number a.used pre.0 pre.1.0 pre.1.1.0 pre.1.1.1 _ _ (omega arith) c.seal.ensures
@@ -18,7 +19,8 @@ returns-then-place-used c = let a = c.args in
     c.if-place-used.true)
 
 pub returns : goal.returns
-returns c = let a = c.args in
+returns c =
+    let a = c.args in
     let room = a.room.now in
     let pre = c.requires in
     made_anew room a.number a.used pre.0 pre.1.0 pre.1.1.0 pre.1.1.1 _ _ (omega arith) c.seal-2.ensures

@@ -24,10 +24,12 @@ pub loop-n-smaller : goal.loop-n-smaller
 loop-n-smaller c = omega (arith, c.loop-n-test.true, next_there _ _ _ c.loop-n.invariant)
 
 pub loop-n-preserved : goal.loop-n-preserved
-loop-n-preserved c = let l = c.loop-n in
+loop-n-preserved c =
+    let l = c.loop-n in
     let input = c.args.input.now in
     gone_on_law input l.at l.n l.invariant _ c.loop-n-test.true (rw (to_end input (l.at + l.n)) at c.whole-n-in-loop-n.ensures)
 
 pub returns : goal.returns
-returns c = let l = c.loop-n in
+returns c =
+    let l = c.loop-n in
     (gone_end _ _ _ l.invariant c.loop-n-test.false, l.invariant.within)

@@ -11,21 +11,25 @@ pub loop-at-init : goal.loop-at-init
 loop-at-init c = (omega arith, listed_names _ _ (omega arith))
 
 pub returns-then-list-at : goal.returns-then-list-at
-returns-then-list-at c = let l = c.loop-at in
+returns-then-list-at c =
+    let l = c.loop-at in
     sym (l.invariant.1 ∙ one_unended _ l.at _ c.first_zero-n.ensures _ (omega arith))
 
 pub returns-then-same : goal.returns-then-same
-returns-then-same c = let l = c.loop-at in
+returns-then-same c =
+    let l = c.loop-at in
     let first = c.first_zero-n.ensures in
     let matches = sym c.same.ensures ∙ c.if-same.true in
     sym (l.invariant.1 ∙ one_here _ l.at _ first _ (omega arith) matches)
 
 pub loop-at-preserved : goal.loop-at-preserved
-loop-at-preserved c = let l = c.loop-at in
+loop-at-preserved c =
+    let l = c.loop-at in
     let first = c.first_zero-n.ensures in
     let differs = sym c.same.ensures ∙ c.if-same.false in
     (omega arith, l.invariant.1 ∙ one_next _ l.at _ first _ (omega arith) differs)
 
 pub returns : goal.returns
-returns c = let l = c.loop-at in
+returns c =
+    let l = c.loop-at in
     sym (l.invariant.1 ∙ one_end _ _ l.at (omega arith))

@@ -17,11 +17,13 @@ pub returns-then-a-i : goal.returns-then-a-i
 returns-then-a-i c = sym (unlike _ _ (λ e. c.if-a-i.true (cc e)))
 
 pub loop-i-preserved : goal.loop-i-preserved
-loop-i-preserved c = let l = c.loop-i in
+loop-i-preserved c =
+    let l = c.loop-i in
     (l.invariant.0, below_more _ l.i l.invariant.1 c.if-a-i.false)
 
 pub returns : goal.returns
-returns c = let l = c.loop-i in
+returns c =
+    let l = c.loop-i in
     let a = c.args in
     let e : a.a.now ≡ a.b.now = ext_get_or 0 _ _ l.invariant.0 (λ k h. l.invariant.1 k (omega arith)) in
     rw (← e) (sym (same_self a.a.now))

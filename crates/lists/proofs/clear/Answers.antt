@@ -7,7 +7,8 @@ use native.Mathlib.Omega.{arith}
 use Rattle.lists.proofs.clear.Goals as goal
 
 pub loop-i-preserved : goal.loop-i-preserved
-loop-i-preserved c = let l = c.loop-i in
+loop-i-preserved c =
+    let l = c.loop-i in
     let d = c.args.part.now in
     (search rules, simp length-set (search rules), rw l.invariant.2 (fill_more l.i 0 d (search rules)))
 

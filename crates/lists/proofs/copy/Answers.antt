@@ -8,7 +8,8 @@ pub loop-i-init : goal.loop-i-init
 loop-i-init c = (refl, c.lesser-n.ensures, refl)
 
 pub loop-i-preserved : goal.loop-i-preserved
-loop-i-preserved c = let l = c.loop-i in
+loop-i-preserved c =
+    let l = c.loop-i in
     (simp length-set l.invariant.0, l.invariant.1, laid_turn _ _ l.i (omega arith) ∙ l.invariant.2)
 
 pub shape_of-part : goal.shape_of-part

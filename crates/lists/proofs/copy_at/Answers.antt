@@ -9,5 +9,6 @@ pub returns-then-part-at : goal.returns-then-part-at
 returns-then-part-at c = sym (laid_past _ _ _ c.if-part-at.true)
 
 pub returns : goal.returns
-returns c = let a = c.args in
+returns c =
+    let a = c.args in
     back_end a.part.now a.at _ a.block.now (omega arith) c.copy.ensures

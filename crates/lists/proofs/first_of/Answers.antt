@@ -9,16 +9,19 @@ pub loop-i-init : goal.loop-i-init
 loop-i-init c = (omega arith, add-zero _)
 
 pub returns-then-bytes-i : goal.returns-then-bytes-i
-returns-then-bytes-i c = let l = c.loop-i in
+returns-then-bytes-i c =
+    let l = c.loop-i in
     let a = c.args in
     search_hit (is_byte a.byte) a.bytes.now l.i 0 (omega arith) (eq-eqb _ _ c.if-bytes-i.true) l.invariant.1
 
 pub loop-i-preserved : goal.loop-i-preserved
-loop-i-preserved c = let l = c.loop-i in
+loop-i-preserved c =
+    let l = c.loop-i in
     let a = c.args in
     (omega arith, search_miss (is_byte a.byte) a.bytes.now l.i 0 (omega arith) (ne_eqb _ _ c.if-bytes-i.false) l.invariant.1)
 
 pub returns : goal.returns
-returns c = let l = c.loop-i in
+returns c =
+    let l = c.loop-i in
     let a = c.args in
     search_end (is_byte a.byte) a.bytes.now l.i (omega arith) l.invariant.1

@@ -8,12 +8,14 @@ use Rattle.log_face.proofs.Words.{no_log, a_log}
 use Rattle.log_face.proofs.dvc_log_append.Goals as goal
 
 pub returns-then-log-ge-LOGS : goal.returns-then-log-ge-LOGS
-returns-then-log-ge-LOGS c = let back = to_z-of_z {w = w64} {z = c.refused.result} (record { sfits = c.refused.type_inv }) in
+returns-then-log-ge-LOGS c =
+    let back = to_z-of_z {w = w64} {z = c.refused.result} (record { sfits = c.refused.type_inv }) in
     let not_one = no_log _ _ _ c.if-log-ge-LOGS.true in
     record { value = back ∙ c.refused.ensures ∙ not_one.0; room_after = not_one.1 }
 
 pub returns : goal.returns
-returns c = let back = to_z-of_z {w = w64} {z = c.log_number.result} (record { sfits = c.log_number.type_inv }) in
+returns c =
+    let back = to_z-of_z {w = w64} {z = c.log_number.result} (record { sfits = c.log_number.type_inv }) in
     let is = c.log_in.ensures in
     let one = a_log _ _ _ c.if-log-ge-LOGS.false in
     let did = rw is at c.append.ensures in

@@ -7,12 +7,14 @@ use Rattle.log_face.proofs.Words.{no_reader, a_reader}
 use Rattle.log_face.proofs.dvc_log_read.Goals as goal
 
 pub returns-then-read-ge-READS : goal.returns-then-read-ge-READS
-returns-then-read-ge-READS c = let back = to_z-of_z {w = w64} {z = c.refused.result} (record { sfits = c.refused.type_inv }) in
+returns-then-read-ge-READS c =
+    let back = to_z-of_z {w = w64} {z = c.refused.result} (record { sfits = c.refused.type_inv }) in
     let not_one = no_reader _ _ _ _ _ c.if-read-ge-READS.true in
     record { value = back ∙ c.refused.ensures ∙ not_one.0; room_after = not_one.1 }
 
 pub returns : goal.returns
-returns c = let back = to_z-of_z {w = w64} {z = c.read_number.result} (record { sfits = c.read_number.type_inv }) in
+returns c =
+    let back = to_z-of_z {w = w64} {z = c.read_number.result} (record { sfits = c.read_number.type_inv }) in
     let is = c.read_in.ensures in
     let one = a_reader _ _ _ _ _ c.if-read-ge-READS.false in
     let did = rw is at c.turn.ensures in

@@ -7,12 +7,14 @@ use Rattle.log_face.proofs.Words.{no_back, a_back}
 use Rattle.log_face.proofs.dvc_log_take_back.Goals as goal
 
 pub returns-then-read-ge-READS : goal.returns-then-read-ge-READS
-returns-then-read-ge-READS c = let back = to_z-of_z {w = w64} {z = c.refused.result} (record { sfits = c.refused.type_inv }) in
+returns-then-read-ge-READS c =
+    let back = to_z-of_z {w = w64} {z = c.refused.result} (record { sfits = c.refused.type_inv }) in
     let not_one = no_back _ _ c.if-read-ge-READS.true in
     record { value = back ∙ c.refused.ensures ∙ not_one.0; room_after = not_one.1 }
 
 pub returns : goal.returns
-returns c = let back = to_z-of_z {w = w64} {z = c.log_number.result} (record { sfits = c.log_number.type_inv }) in
+returns c =
+    let back = to_z-of_z {w = w64} {z = c.log_number.result} (record { sfits = c.log_number.type_inv }) in
     let is = c.read_in-reader.ensures in
     let one = a_back _ _ c.if-read-ge-READS.false in
     let did = rw is at c.take_back.ensures in

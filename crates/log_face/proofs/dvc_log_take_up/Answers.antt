@@ -6,5 +6,6 @@ use Rattle.log_face.specs.Words.{log_number}
 use Rattle.log_face.proofs.dvc_log_take_up.Goals as goal
 
 pub returns : goal.returns
-returns c = let back = to_z-of_z {w = w64} {z = c.log_number.result} (record { sfits = c.log_number.type_inv }) in
+returns c =
+    let back = to_z-of_z {w = w64} {z = c.log_number.result} (record { sfits = c.log_number.type_inv }) in
     back ∙ c.log_number.ensures ∙ ap log_number c.take_up.ensures

@@ -15,5 +15,6 @@ returns-in-Put c = rw c.in-Put.is (to_z_pos w64 c.log_word.ensures.1 ∙ ap pos 
 
 pub returns-in-Refused : goal.returns-in-Refused
 unfolding log_number
-returns-in-Refused c = let back = to_z-of_z {w = w64} {z = c.refused.result} (record { sfits = c.refused.type_inv }) in
+returns-in-Refused c =
+    let back = to_z-of_z {w = w64} {z = c.refused.result} (record { sfits = c.refused.type_inv }) in
     rw c.in-Refused.is (back ∙ c.refused.ensures)

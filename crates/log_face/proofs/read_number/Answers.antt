@@ -15,5 +15,6 @@ returns-in-Stands c = rw c.in-Stands.is (to_z_pos w64 c.read_word.ensures.1 ∙ 
 
 pub returns-in-Refused : goal.returns-in-Refused
 unfolding read_number
-returns-in-Refused c = let back = to_z-of_z {w = w64} {z = c.refused.result} (record { sfits = c.refused.type_inv }) in
+returns-in-Refused c =
+    let back = to_z-of_z {w = w64} {z = c.refused.result} (record { sfits = c.refused.type_inv }) in
     rw c.in-Refused.is (back ∙ c.refused.ensures)

@@ -7,12 +7,14 @@ use Rattle.logging.proofs.Inputs.{announced_is, is_close_law, is_pdu, number_beh
 use Rattle.logging.proofs.append.Goals as goal
 
 pub returns-then-announced-eq-CLOSE : goal.returns-then-announced-eq-CLOSE
-returns-then-announced-eq-CLOSE c = let did = c.close.ensures in
+returns-then-announced-eq-CLOSE c =
+    let did = c.close.ensures in
     let bytes = c.args.bytes.now in
     let number = c.number-number.ensures ∙ ap value_of (to_end bytes LENGTH) ∙ number_behind bytes in
     rw (is_close_law bytes _ (c.short_at-announced.ensures ∙ announced_is bytes) c.if-announced-eq-CLOSE.true, ← number) did
 
 pub returns : goal.returns
-returns c = let did = c.append.ensures in
+returns c =
+    let did = c.append.ensures in
     let bytes = c.args.bytes.now in
     rw (is_pdu bytes _ (c.short_at-announced.ensures ∙ announced_is bytes) c.if-announced-eq-CLOSE.false) (rw (to_end bytes LENGTH) at did)

@@ -4,5 +4,6 @@ use Rattle.lists.proofs.Laid.{whole}
 use Rattle.logging.proofs.bring.Goals as goal
 
 pub returns-then-from-eq0 : goal.returns-then-from-eq0
-returns-then-from-eq0 c = let bytes = c.args.bytes.now in
+returns-then-from-eq0 c =
+    let bytes = c.args.bytes.now in
     rw c.if-from-eq0.true (sym (whole bytes bytes refl))

@@ -13,7 +13,8 @@ use Rattle.logging.proofs.close_line.Goals as goal
 
 pub returns : goal.returns
 unfolding entry_line
-returns c = let a = c.args in
+returns c =
+    let a = c.args in
     let bytes = a.bytes.now in
     let number = c.number-number.ensures ∙ ap value_of (to_end bytes LENGTH) ∙ number_behind bytes in
     let word = c.text-worded.ensures in

@@ -10,7 +10,8 @@ unfolding laid
 returns-then-is_even c = rw (last_even _ _ (sym c.is_even.ensures ∙ c.if-is_even.true)) (record { value = (refl, omega arith); out_after = refl })
 
 pub returns : goal.returns
-returns c = let a = c.args in
+returns c =
+    let a = c.args in
     let room = a.room.now in
     let last =
     last_lent a.log room _ c.lesser-start.result c.lesser-end.result c.last_at-at.ensures.0 c.lesser-start.ensures

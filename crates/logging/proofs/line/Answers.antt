@@ -8,17 +8,20 @@ use native.Mathlib.Omega.{arith}
 use Rattle.logging.proofs.line.Goals as goal
 
 pub returns-then-announced-eq-CLOSE : goal.returns-then-announced-eq-CLOSE
-returns-then-announced-eq-CLOSE c = let bytes = c.args.bytes.now in
+returns-then-announced-eq-CLOSE c =
+    let bytes = c.args.bytes.now in
     let did = c.close_line.ensures in
     rw (is_close_law bytes _ (c.short_at-announced.ensures ∙ announced_is bytes) c.if-announced-eq-CLOSE.true)
     (record { value = (did.value.0, omega (arith, did.value.1, c.requires.0)); out_after = did.out_after })
 
 pub pdu_line-requires : goal.pdu_line-requires
-pdu_line-requires c = let bytes = c.args.bytes.now in
+pdu_line-requires c =
+    let bytes = c.args.bytes.now in
     rw (to_end bytes LENGTH) (omega (arith, length-drop LENGTH bytes, c.requires), c.requires.1.1)
 
 pub returns : goal.returns
-returns c = let bytes = c.args.bytes.now in
+returns c =
+    let bytes = c.args.bytes.now in
     let did = rw (to_end bytes LENGTH) at c.pdu_line.ensures in
     rw (is_pdu bytes _ (c.short_at-announced.ensures ∙ announced_is bytes) c.if-announced-eq-CLOSE.false)
     (record { value = (did.value.0, omega (arith, did.value.1, length-drop LENGTH bytes, c.requires.0)); out_after = did.out_after })

@@ -89,7 +89,8 @@ loop-at-preserved c =
     (omega (arith, did.value.1, length-take n (drop l.at records))) did.out_after
 
 pub returns-after-loop-at : goal.returns-after-loop-at
-returns-after-loop-at c = let l = c.loop-at in
+returns-after-loop-at c =
+    let l = c.loop-at in
     let records = c.args.records.now in
     let none : logged_whole (drop l.at records) ≡ 0 =
     omega (arith, log_framing.fits (drop l.at records), length-drop l.at records, c.loop-at-test.false) in
@@ -97,7 +98,8 @@ returns-after-loop-at c = let l = c.loop-at in
     record { value = (end.0.0, omega (arith, end.0.1, c.requires)); out_after = end.1 }
 
 pub returns-then-n-eq0 : goal.returns-then-n-eq0
-returns-then-n-eq0 c = let l = c.loop-at in
+returns-then-n-eq0 c =
+    let l = c.loop-at in
     let records = c.args.records.now in
     let none = sym (c.whole-n.ensures ∙ ap logged_whole (to_end records l.at)) ∙ c.if-n-eq0.true in
     let end = ends_so records c.args.out.now l.out l.at l.used l.invariant none in

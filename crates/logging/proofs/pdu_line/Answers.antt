@@ -26,7 +26,8 @@ overflow_add-result c = omega (arith, c.text-worded.ensures.value, c.field.ensur
 
 pub returns : goal.returns
 unfolding entry_line MESSAGE_MAX
-returns c = let a = c.args in
+returns c =
+    let a = c.args in
     let out = a.out.now in
     let pdu = a.pdu.now in
     let f2 = field (length pdu) SPACE in

@@ -8,7 +8,8 @@ use Rattle.logging.proofs.Steps.{is_put, is_refused_law}
 use Rattle.logging.proofs.put.Goals as goal
 
 pub returns-in-Put : goal.returns-in-Put
-returns-in-Put c = let a = c.args in
+returns-in-Put c =
+    let a = c.args in
     let out = c.full-n.ensures in
     let run = run_of (record { log = a.log; why = 0 }) a.room.now [] in
     rw (is_put run (entry_in a.bytes.now) _ c.append.ensures.room_after _ (sym c.in-Put.is ∙ c.append.ensures.value))
@@ -16,7 +17,8 @@ returns-in-Put c = let a = c.args in
 
 pub returns-in-Refused : goal.returns-in-Refused
 unfolding laid
-returns-in-Refused c = let a = c.args in
+returns-in-Refused c =
+    let a = c.args in
     let run = run_of (record { log = a.log; why = 0 }) a.room.now [] in
     rw (is_refused_law run (entry_in a.bytes.now) _ c.append.ensures.room_after _ (sym c.in-Refused.is ∙ c.append.ensures.value))
     (record { course_value = (rw c.refusal_number.ensures refl, refl); room_after = refl; out_after = refl })

@@ -6,10 +6,12 @@ use native.Mathlib.Omega.{arith}
 use Rattle.logging.proofs.say.Goals as goal
 
 pub lines_of-requires : goal.lines_of-requires
-lines_of-requires c = let records = c.args.records.now in
+lines_of-requires c =
+    let records = c.args.records.now in
     let long = length-take-le c.lesser-n.result records (omega (arith, c.lesser-n.ensures)) in
     omega (arith, long, c.lesser-n.ensures)
 
 pub returns : goal.returns
-returns c = let records = c.args.records.now in
+returns c =
+    let records = c.args.records.now in
     rw (c.lesser-n.ensures, take_least ROOM records) at c.lines_of.ensures

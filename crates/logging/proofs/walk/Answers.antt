@@ -91,7 +91,8 @@ loop-at-preserved c =
     on
 
 pub returns-after-loop-at : goal.returns-after-loop-at
-returns-after-loop-at c = let l = c.loop-at in
+returns-after-loop-at c =
+    let l = c.loop-at in
     let a = c.args in
     let input = a.input.now in
     let none : input_whole (drop l.at input) ≡ 0 =
@@ -100,7 +101,8 @@ returns-after-loop-at c = let l = c.loop-at in
     record { course_value = end.0; taken_value = end.1.0; room_after = end.1.1.0; out_after = end.1.1.1 }
 
 pub returns-then-n-eq0 : goal.returns-then-n-eq0
-returns-then-n-eq0 c = let l = c.loop-at in
+returns-then-n-eq0 c =
+    let l = c.loop-at in
     let a = c.args in
     let input = a.input.now in
     let none = sym (c.whole-n.ensures ∙ ap input_whole (to_end input l.at)) ∙ c.if-n-eq0.true in

@@ -1,5 +1,4 @@
 use mathlib.Core.Path.{refl, sym, ◌∙◌}
-use mathlib.Core.Logic.{⊎_elim}
 use lib.ListN.{length-set}
 use Rattle.lists.specs.Bytes.{zeros}
 use Rattle.lists.proofs.Laid.{laid_turn, laid_rest, laid_past}
@@ -12,7 +11,8 @@ unfolding zeros
 loop-i-init c = (omega arith, refl, refl)
 
 pub loop-i-preserved : goal.loop-i-preserved
-loop-i-preserved c = let l = c.loop-i in
+loop-i-preserved c =
+    let l = c.loop-i in
     elim c.if-i-bytes.branch [
       | then-i-bytes w ↦ (
         omega arith,

@@ -6,7 +6,8 @@ use borrow.Author.Rules.{rules}
 use Rattle.numbers.proofs.joined.Goals as goal
 
 pub returns : goal.returns
-returns c = let b = c.args.b in
+returns c =
+    let b = c.args.b in
     let n : length b ≡ 4 = search rules in
     simp (
       c.wide-high.ensures.0,

@@ -12,7 +12,8 @@ unfolding value_at value_of little
 loop-at-init c = (omega arith, refl)
 
 pub overflow_mul-value : goal.overflow_mul-value
-overflow_mul-value c = let room : c.loop-at.value < 256 ^ 3 = let l = c.loop-at in
+overflow_mul-value c =
+    let room : c.loop-at.value < 256 ^ 3 = let l = c.loop-at in
     let three : 4 - l.at ≤ 3 = omega (arith, c.loop-at-test.true) in
     rw l.invariant.1
     (lt_of_lt_of_le
@@ -21,7 +22,8 @@ overflow_mul-value c = let room : c.loop-at.value < 256 ^ 3 = let l = c.loop-at 
     record { fits = omega (arith, room) }
 
 pub overflow_add-value : goal.overflow_add-value
-overflow_add-value c = let room : c.loop-at.value < 256 ^ 3 = let l = c.loop-at in
+overflow_add-value c =
+    let room : c.loop-at.value < 256 ^ 3 = let l = c.loop-at in
     let three : 4 - l.at ≤ 3 = omega (arith, c.loop-at-test.true) in
     rw l.invariant.1
     (lt_of_lt_of_le
@@ -30,19 +32,22 @@ overflow_add-value c = let room : c.loop-at.value < 256 ^ 3 = let l = c.loop-at 
     record { fits = omega (arith, room, c.wide.ensures.1) }
 
 pub loop-at-preserved-then-at-bytes : goal.loop-at-preserved-then-at-bytes
-loop-at-preserved-then-at-bytes c = let l = c.loop-at in
+loop-at-preserved-then-at-bytes c =
+    let l = c.loop-at in
     let bytes = c.args.bytes.now in
     let more : 4 - (l.at - 1) ≡ suc (4 - l.at) = omega (arith, c.loop-at-test.true, l.invariant.0) in
     let taken = value_turn bytes l.at (4 - l.at) c.loop-at-test.true (omega (arith, c.loop-at-test.true)) in
     (omega arith, rw more (omega (arith, taken, l.invariant.1, c.wide.ensures.0)))
 
 pub loop-at-preserved : goal.loop-at-preserved
-loop-at-preserved c = let l = c.loop-at in
+loop-at-preserved c =
+    let l = c.loop-at in
     let bytes = c.args.bytes.now in
     let none = value_past bytes l.at (4 - l.at) (omega arith) in
     (omega arith, omega (arith, none, value_past bytes (l.at - 1) (4 - (l.at - 1)) c.if-at-bytes.false, l.invariant.1))
 
 pub returns : goal.returns
-returns c = let l = c.loop-at in
+returns c =
+    let l = c.loop-at in
     let all : l.at ≡ 0 = omega arith in
     rw (l.invariant.1, all) (value_whole c.args.bytes.now)

@@ -11,7 +11,8 @@ use Rattle.numbers.proofs.short_at.Goals as goal
 
 pub overflow_cast-result : goal.overflow_cast-result
 unfolding value_at
-overflow_cast-result c = let lent : let a = c.args in
+overflow_cast-result c =
+    let lent : let a = c.args in
     c.number.result ≡ value_at a.bytes.now a.at 2 = let a = c.args in
     let end : c.lesser-end.result ≡ min (a.at + 2) (length a.bytes.now) = omega (arith, c.lesser-start.ensures, c.lesser-end.ensures) in
     c.number.ensures ∙ ap value_of (part_lent a.bytes.now a.at 2 _ _ c.lesser-start.ensures end) in
@@ -20,7 +21,8 @@ overflow_cast-result c = let lent : let a = c.args in
 
 pub returns : goal.returns
 unfolding value_at
-returns c = let lent : let a = c.args in
+returns c =
+    let lent : let a = c.args in
     c.number.result ≡ value_at a.bytes.now a.at 2 = let a = c.args in
     let end : c.lesser-end.result ≡ min (a.at + 2) (length a.bytes.now) = omega (arith, c.lesser-start.ensures, c.lesser-end.ensures) in
     c.number.ensures ∙ ap value_of (part_lent a.bytes.now a.at 2 _ _ c.lesser-start.ensures end) in

@@ -7,5 +7,6 @@ use Rattle.numbers.proofs.status.Goals as goal
 
 pub returns : goal.returns
 unfolding status_of
-returns c = let back = to_z-of_z {w = w32} {z = c.signed.result} (record { sfits = c.signed.type_inv }) in
+returns c =
+    let back = to_z-of_z {w = w32} {z = c.signed.result} (record { sfits = c.signed.type_inv }) in
     back ∙ c.signed.ensures ∙ ap signed_of c.joined.ensures

@@ -8,5 +8,6 @@ use Rattle.numbers.proofs.status_bytes.Goals as goal
 
 pub returns : goal.returns
 unfolding status_bytes
-returns c = let back = to_z-of_z {w = w32} c.ranges.status in
+returns c =
+    let back = to_z-of_z {w = w32} c.ranges.status in
     c.split.ensures ∙ ap (bytes_of 4) (c.unsigned.ensures ∙ ap unsigned_of back)

@@ -14,7 +14,8 @@ pub overflow_sub-below : goal.overflow_sub-below
 overflow_sub-below c = (down_back _ c.ranges.status c.if-status-ge0.false).fits_d
 
 pub overflow_cast-result-2 : goal.overflow_cast-result-2
-overflow_cast-result-2 c = let d = down_back2 _ c.ranges.status c.if-status-ge0.false in
+overflow_cast-result-2 c =
+    let d = down_back2 _ c.ranges.status c.if-status-ge0.false in
     (d.nonneg, record { fits = omega arith })
 
 pub overflow_sub-result : goal.overflow_sub-result

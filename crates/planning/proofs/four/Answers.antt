@@ -9,7 +9,8 @@ use Rattle.planning.proofs.four.Goals as goal
 
 pub returns : goal.returns
 unfolding four_line
-returns c = let a = c.args in
+returns c =
+    let a = c.args in
     let out = a.out.now in
     let f1 = field a.a SPACE in
     let f2 = field a.b SPACE in

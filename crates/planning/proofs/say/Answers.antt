@@ -7,7 +7,8 @@ use Rattle.planning.proofs.say.Goals as goal
 
 pub returns-in-Added : goal.returns-in-Added
 unfolding last_line
-returns-in-Added c = let out = c.args.out.now in
+returns-in-Added c =
+    let out = c.args.out.now in
     let f2 = four_line _ _ _ _ in
     let p1 = c.text-worded.ensures in
     let p2 = c.four.ensures in
@@ -15,5 +16,6 @@ returns-in-Added c = let out = c.args.out.now in
 
 pub returns-in-Refused : goal.returns-in-Refused
 unfolding last_line
-returns-in-Refused c = let done = rw c.refusal_number.ensures at c.refused.ensures in
+returns-in-Refused c =
+    let done = rw c.refusal_number.ensures at c.refused.ensures in
     rw c.in-Refused.is (record { value = (done.value.0, omega (arith, done.value.1)); out_after = done.out_after })

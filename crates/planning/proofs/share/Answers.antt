@@ -8,7 +8,8 @@ use Rattle.planning.proofs.share.Goals as goal
 
 pub returns : goal.returns
 unfolding course_after line_for shares_line SETS_MAX
-returns c = let a = c.args in
+returns c =
+    let a = c.args in
     let line = rw (c.shares_of-shares.ensures, c.charges_in.ensures) at c.four-laid.ensures in
     rw (lt-ltb a.course.sets SETS_MAX (search rules), c.add.ensures, c.shares_of-shares.ensures, c.charges_in.ensures)
     (record { course_value = (refl, line.value); out_after = line.out_after })

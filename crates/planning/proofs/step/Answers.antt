@@ -8,7 +8,8 @@ use Rattle.planning.proofs.step.Goals as goal
 
 pub returns-then-course-ge-SETS_MAX : goal.returns-then-course-ge-SETS_MAX
 unfolding course_after line_for laid
-returns-then-course-ge-SETS_MAX c = let a = c.args in
+returns-then-course-ge-SETS_MAX c =
+    let a = c.args in
     rw (le-ltb a.course.sets SETS_MAX (omega (arith, sets_max, c.if-course-ge-SETS_MAX.true)), sets_max) (record { course_value = (refl, (refl, omega arith)); out_after = refl })
 
 pub share-requires : goal.share-requires

@@ -6,7 +6,8 @@ use Rattle.planning.proofs.turn.Goals as goal
 
 pub returns : goal.returns
 unfolding rest_of
-returns c = let a = c.args in
+returns c =
+    let a = c.args in
     let input = a.input.now in
     let walked = c.walk-walked.ensures in
     let long = ap length c.to_front.ensures ∙ length_laid input 0 _ in

@@ -6,7 +6,8 @@ use Rattle.planning.proofs.Walks.{begins, goes_on_law, ends_so}
 use Rattle.planning.proofs.walk.Goals as goal
 
 pub loop-at-init : goal.loop-at-init
-loop-at-init c = let a = c.args in
+loop-at-init c =
+    let a = c.args in
     begins a.course a.input.now a.out.now
 
 pub overflow_sub-input : goal.overflow_sub-input
@@ -28,7 +29,8 @@ pub loop-at-smaller : goal.loop-at-smaller
 loop-at-smaller c = omega (arith, c.loop-at-test.true)
 
 pub loop-at-preserved : goal.loop-at-preserved
-loop-at-preserved c = let l = c.loop-at in
+loop-at-preserved c =
+    let l = c.loop-at in
     let a = c.args in
     let input = a.input.now in
     let lent = from_to input l.at SET in
@@ -37,7 +39,8 @@ loop-at-preserved c = let l = c.loop-at in
     done.course_value.1.0 done.course_value.1.1 done.out_after
 
 pub returns : goal.returns
-returns c = let l = c.loop-at in
+returns c =
+    let l = c.loop-at in
     let a = c.args in
     let end = ends_so a.course a.input.now a.out.now l.out l.next l.at l.used l.invariant (omega (arith, c.loop-at-test.false)) in
     record { course_value = end.0; taken_value = end.1.0; out_after = end.1.1 }

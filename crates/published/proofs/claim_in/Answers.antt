@@ -11,19 +11,22 @@ use Rattle.published.proofs.claim_in.Goals as goal
 
 pub returns-then-line-lt3 : goal.returns-then-line-lt3
 unfolding claim_in
-returns-then-line-lt3 c = let line = c.args.line.now in
+returns-then-line-lt3 c =
+    let line = c.args.line.now in
     rw (lt-ltb (length line) 3 c.if-line-lt3.true)
 
 pub returns-then-pair-byte : goal.returns-then-pair-byte
 unfolding claim_in
-returns-then-pair-byte c = let a = c.args in
+returns-then-pair-byte c =
+    let a = c.args in
     let line = a.line.now in
     let same = same_byte (pair_in (get_or line 0 0) (get_or line 1 0)) _ a.byte (omega arith) c.pair.ensures.0 in
     rw (le-ltb (length line) 3 c.if-line-lt3.false, same ∙ ne_eqb _ _ c.if-pair-byte.true)
 
 pub returns-then-line-ne32 : goal.returns-then-line-ne32
 unfolding claim_in
-returns-then-line-ne32 c = let a = c.args in
+returns-then-line-ne32 c =
+    let a = c.args in
     let line = a.line.now in
     let same = same_byte (pair_in (get_or line 0 0) (get_or line 1 0)) _ a.byte (omega arith) c.pair.ensures.0 in
     rw (
@@ -34,7 +37,8 @@ returns-then-line-ne32 c = let a = c.args in
 
 pub returns : goal.returns
 unfolding claim_in
-returns c = let a = c.args in
+returns c =
+    let a = c.args in
     let line = a.line.now in
     let same = same_byte (pair_in (get_or line 0 0) (get_or line 1 0)) _ a.byte (omega arith) c.pair.ensures.0 in
     rw (

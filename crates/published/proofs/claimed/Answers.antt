@@ -11,26 +11,30 @@ use Rattle.published.proofs.claimed.Goals as goal
 
 pub returns-then-same : goal.returns-then-same
 unfolding claim_behind
-returns-then-same c = let rest = c.args.rest.now in
+returns-then-same c =
+    let rest = c.args.rest.now in
     let is = compared rest UNDEFINED _ c.same.ensures.0 c.same.ensures.1 in
     rw (sym is ∙ c.if-same.true)
 
 pub returns-then-rest-ne4 : goal.returns-then-rest-ne4
 unfolding claim_behind
-returns-then-rest-ne4 c = let rest = c.args.rest.now in
+returns-then-rest-ne4 c =
+    let rest = c.args.rest.now in
     let is = compared rest UNDEFINED _ c.same.ensures.0 c.same.ensures.1 in
     rw (sym is ∙ c.if-same.false, ne_eqb (length rest) 4 c.if-rest-ne4.true)
 
 pub returns-then-high-eq-NO_PAIR : goal.returns-then-high-eq-NO_PAIR
 unfolding claim_behind four_in
-returns-then-high-eq-NO_PAIR c = let rest = c.args.rest.now in
+returns-then-high-eq-NO_PAIR c =
+    let rest = c.args.rest.now in
     let is = compared rest UNDEFINED _ c.same.ensures.0 c.same.ensures.1 in
     let high = no_number 256 (pair_in (get_or rest 0 0) (get_or rest 1 0)) _ (pair_small _ _) c.pair-high.ensures.0 c.if-high-eq-NO_PAIR.true in
     rw (sym is ∙ c.if-same.false, eq-eqb (length rest) 4 c.if-rest-ne4.false, high)
 
 pub returns-then-low-eq-NO_PAIR : goal.returns-then-low-eq-NO_PAIR
 unfolding claim_behind four_in
-returns-then-low-eq-NO_PAIR c = let rest = c.args.rest.now in
+returns-then-low-eq-NO_PAIR c =
+    let rest = c.args.rest.now in
     let is = compared rest UNDEFINED _ c.same.ensures.0 c.same.ensures.1 in
     let high = is_number 256 (pair_in (get_or rest 0 0) (get_or rest 1 0)) _ c.pair-high.ensures.0 c.if-high-eq-NO_PAIR.false in
     let low = no_number 256 (pair_in (get_or rest 2 0) (get_or rest 3 0)) _ (pair_small _ _) c.pair-low.ensures.0 c.if-low-eq-NO_PAIR.true in
@@ -38,7 +42,8 @@ returns-then-low-eq-NO_PAIR c = let rest = c.args.rest.now in
 
 pub returns : goal.returns
 unfolding claim_behind four_in
-returns c = let rest = c.args.rest.now in
+returns c =
+    let rest = c.args.rest.now in
     let is = compared rest UNDEFINED _ c.same.ensures.0 c.same.ensures.1 in
     let high = is_number 256 (pair_in (get_or rest 0 0) (get_or rest 1 0)) _ c.pair-high.ensures.0 c.if-high-eq-NO_PAIR.false in
     let low = is_number 256 (pair_in (get_or rest 2 0) (get_or rest 3 0)) _ c.pair-low.ensures.0 c.if-low-eq-NO_PAIR.false in

@@ -15,7 +15,8 @@ returns-then-out-lt-COMPARED_MAX c = rw (lt-ltb (length c.args.out.now) COMPARED
 
 pub returns-then-wrong-ne0 : goal.returns-then-wrong-ne0
 unfolding compared_for compared_in COMPARED_MAX
-returns-then-wrong-ne0 c = let a = c.args in
+returns-then-wrong-ne0 c =
+    let a = c.args in
     let wrong = wrong_from 0 (lines_in a.file.now) in
     let is : wrong ≡ c.wrong_line-wrong.result = sym c.wrong_line-wrong.ensures in
     rw (
@@ -26,7 +27,8 @@ returns-then-wrong-ne0 c = let a = c.args in
 
 pub returns-then-used-ne0 : goal.returns-then-used-ne0
 unfolding compared_for compared_in COMPARED_MAX
-returns-then-used-ne0 c = let good : let a = c.args in
+returns-then-used-ne0 c =
+    let good : let a = c.args in
     (wrong_from 0 (lines_in a.file.now) ≡ 0) × (COMPARED_MAX ≤ length a.out.now) = (sym c.wrong_line-wrong.ensures ∙ c.if-wrong-ne0.false, c.if-out-lt-COMPARED_MAX.false) in
     let g = good in
     let a = c.args in
@@ -41,7 +43,8 @@ returns-then-used-ne0 c = let good : let a = c.args in
 
 pub returns : goal.returns
 unfolding compared_for compared_in COMPARED_MAX
-returns c = let good : let a = c.args in
+returns c =
+    let good : let a = c.args in
     (wrong_from 0 (lines_in a.file.now) ≡ 0) × (COMPARED_MAX ≤ length a.out.now) = (sym c.wrong_line-wrong.ensures ∙ c.if-wrong-ne0.false, c.if-out-lt-COMPARED_MAX.false) in
     let g = good in
     let a = c.args in

@@ -17,12 +17,14 @@ returns-then-agree c = rw (sym c.agree.ensures ∙ c.if-agree.true) (record { va
 
 pub overflow_add-result : goal.overflow_add-result
 unfolding hex_byte
-overflow_add-result c = let two = rw c.hex_byte-hex.ensures at c.text-named.ensures.value in
+overflow_add-result c =
+    let two = rw c.hex_byte-hex.ensures at c.text-named.ensures.value in
     omega (arith, two, c.text.ensures.value, c.ours.ensures.value.1, c.text-2.ensures.value, c.theirs.ensures.value.1, c.text-3.ensures.value)
 
 pub returns : goal.returns
 unfolding difference_of hex_byte
-returns c = let a = c.args in
+returns c =
+    let a = c.args in
     let out = a.out.now in
     let t1 = hex_byte a.byte in
     let t3 = our_text (point_of a.byte) in

@@ -11,5 +11,6 @@ returns-then-point-eq-NONE c = rw (eq-eqb _ NONE c.if-point-eq-NONE.true) (recor
 
 pub returns : goal.returns
 unfolding our_text
-returns c = let did = c.point_text.ensures in
+returns c =
+    let did = c.point_text.ensures in
     rw (ne_eqb _ NONE c.if-point-eq-NONE.false) (record { value = did.value; out_after = did.out_after })

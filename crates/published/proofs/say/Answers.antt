@@ -10,7 +10,8 @@ use Rattle.published.proofs.say.Goals as goal
 
 pub returns : goal.returns
 unfolding wrong_line
-returns c = let a = c.args in
+returns c =
+    let a = c.args in
     let out = a.out.now in
     let number = field a.line SPACE in
     let n2 = ends NAMES_LINE number c.text-begun.ensures.value c.field.ensures.value.0 in

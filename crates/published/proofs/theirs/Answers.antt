@@ -7,7 +7,8 @@ use Rattle.published.proofs.theirs.Goals as goal
 
 pub returns-in-Point : goal.returns-in-Point
 unfolding their_text
-returns-in-Point c = let did = c.point_text.ensures in
+returns-in-Point c =
+    let did = c.point_text.ensures in
     rw c.in-Point.is (record { value = did.value; out_after = did.out_after })
 
 pub returns-in-Undefined : goal.returns-in-Undefined

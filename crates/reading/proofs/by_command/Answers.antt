@@ -20,4 +20,4 @@ returns-then-cmd-eq-CAPABILITIES c = let both = is_found _ (search (tests, c.cap
 
 pub returns : goal.returns
 unfolding by_command loose_by
-returns c = search (tests, c.numbered.ensures)  -- TODO record answer_value result_value
+returns c = search (tests, c.numbered.ensures)

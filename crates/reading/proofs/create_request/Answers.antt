@@ -11,21 +11,24 @@ use Rattle.reading.proofs.create_request.Goals as goal
 
 pub returns-then-pdu-at : goal.returns-then-pdu-at
 unfolding create_request named_for
-returns-then-pdu-at c = let found : c.first_zero-len.result ≡ place is_zero
+returns-then-pdu-at c =
+    let found : c.first_zero-len.result ≡ place is_zero
     (drop c.args.at c.args.pdu.now) = let a = c.args in
     c.first_zero-len.ensures ∙ ap (place is_zero) (to_end a.pdu.now a.at) in
     rw (← found) (search tests)
 
 pub returns-then-len-pdu : goal.returns-then-len-pdu
 unfolding create_request named_for
-returns-then-len-pdu c = let found : c.first_zero-len.result ≡ place is_zero
+returns-then-len-pdu c =
+    let found : c.first_zero-len.result ≡ place is_zero
     (drop c.args.at c.args.pdu.now) = let a = c.args in
     c.first_zero-len.ensures ∙ ap (place is_zero) (to_end a.pdu.now a.at) in
     rw (← found) (search tests)
 
 pub returns : goal.returns
 unfolding create_request named_for
-returns c = let found : c.first_zero-len.result ≡ place is_zero
+returns c =
+    let found : c.first_zero-len.result ≡ place is_zero
     (drop c.args.at c.args.pdu.now) = let a = c.args in
     c.first_zero-len.ensures ∙ ap (place is_zero) (to_end a.pdu.now a.at) in
     rw (← found) (search tests)

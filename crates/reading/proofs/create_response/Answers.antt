@@ -23,7 +23,8 @@ returns-then-at-pdu c = search tests
 
 pub returns : goal.returns
 unfolding create_response
-returns c = let a = c.args in
+returns c =
+    let a = c.args in
     let back = to_z-of_z {w = w32} {z = c.status-status.result} (record { sfits = c.status-status.type_inv }) in
     let four : c.four.result ≡ take 4 (drop a.at a.pdu.now) =
     c.four.ensures

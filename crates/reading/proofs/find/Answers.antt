@@ -16,4 +16,4 @@ returns-then-pdu-gt-PDU_MAX c = let both = is_refused_law _ _ c.refused-then-pdu
 
 pub returns : goal.returns
 unfolding read_pdu PDU_MAX read_strict loose
-returns c = search (tests, c.by_command.ensures)  -- TODO record answer_value result_value
+returns c = search (tests, c.by_command.ensures)

@@ -6,5 +6,6 @@ use Rattle.reading.proofs.number_at.Goals as goal
 
 pub returns : goal.returns
 unfolding value_at wide_at
-returns c = let a = c.args in
+returns c =
+    let a = c.args in
     c.measure.ensures ∙ ap measured_of (from_to a.pdu.now a.at a.n)

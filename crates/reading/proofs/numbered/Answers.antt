@@ -23,7 +23,8 @@ overflow_add-width c = omega (arith, c.width-width.ensures, width_le c.args.cb_i
 
 pub returns-then-pdu-width : goal.returns-then-pdu-width
 unfolding numbered
-returns-then-pdu-width c = let good_widths : bad_length_width c.args.cmd
+returns-then-pdu-width c =
+    let good_widths : bad_length_width c.args.cmd
     c.args.middle ≡ false = sym c.bad_length_width.ensures ∙ c.if-bad_length_width.false in
     let both = is_refused_law _ _ c.refused-then-pdu-width.ensures.0
     (rw (← c.width-width.ensures) (search (tests, good_widths))) in record { answer_value = both.0; result_value = both.1 }
@@ -40,8 +41,9 @@ after_number-requires c = omega (
 
 pub returns : goal.returns
 unfolding numbered loose_numbered
-returns c = let good_widths : bad_length_width c.args.cmd
+returns c =
+    let good_widths : bad_length_width c.args.cmd
     c.args.middle ≡ false = sym c.bad_length_width.ensures ∙ c.if-bad_length_width.false in
     let got = rw c.number_at.ensures at c.after_number.ensures in
     rw (← c.width-width.ensures)
-    (rw (ne_eqb _ _ c.if-cb_id-eq3.false, good_widths, le-ltb _ _ c.if-pdu-width.false) got)  -- TODO record answer_value result_value
+    (rw (ne_eqb _ _ c.if-cb_id-eq3.false, good_widths, le-ltb _ _ c.if-pdu-width.false) got)

@@ -5,10 +5,12 @@ use Rattle.records.proofs.desk_whole.Goals as goal
 
 pub returns-then-input-n : goal.returns-then-input-n
 unfolding desk_whole whole_by
-returns-then-input-n c = let short = rw c.desk_needs-n.ensures.0 at c.if-input-n.true in
+returns-then-input-n c =
+    let short = rw c.desk_needs-n.ensures.0 at c.if-input-n.true in
     simp lt-ltb
 
 pub returns : goal.returns
 unfolding desk_whole whole_by
-returns c = let there = rw c.desk_needs-n.ensures.0 at c.if-input-n.false in
+returns c =
+    let there = rw c.desk_needs-n.ensures.0 at c.if-input-n.false in
     simp (le-ltb, c.desk_needs-n.ensures.0)

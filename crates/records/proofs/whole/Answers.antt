@@ -9,12 +9,14 @@ returns-then-input-lt-LENGTH c = let short = c.if-input-lt-LENGTH.true in simp l
 
 pub returns-then-input-size : goal.returns-then-input-size
 unfolding whole_of announced
-returns-then-input-size c = let room = c.if-input-lt-LENGTH.false in
+returns-then-input-size c =
+    let room = c.if-input-lt-LENGTH.false in
     let short = rw c.number-announced.ensures at c.if-input-size.true in
     simp (le-ltb, lt-ltb)
 
 pub returns : goal.returns
 unfolding whole_of announced
-returns c = let room = c.if-input-lt-LENGTH.false in
+returns c =
+    let room = c.if-input-lt-LENGTH.false in
     let there = rw c.number-announced.ensures at c.if-input-size.false in
     simp (le-ltb, c.number-announced.ensures)

@@ -8,14 +8,17 @@ pub returns-then-opens-eq0 : goal.returns-then-opens-eq0
 returns-then-opens-eq0 c = sym (awaits_shut c.args.rest 0 0 (sym c.opens.ensures ∙ c.if-opens-eq0.true))
 
 pub returns-then-code-lt-WANTED : goal.returns-then-code-lt-WANTED
-returns-then-code-lt-WANTED c = let rest = c.args.rest in
+returns-then-code-lt-WANTED c =
+    let rest = c.args.rest in
     sym (awaits_low rest 0 0 (λ e. c.if-opens-eq0.false (c.opens.ensures ∙ e)) c.if-code-lt-WANTED.true)
 
 pub returns-then-code : goal.returns-then-code
-returns-then-code c = let rest = c.args.rest in
+returns-then-code c =
+    let rest = c.args.rest in
     let is = awaits_high rest 0 0 (λ e. c.if-opens-eq0.false (c.opens.ensures ∙ e)) c.if-code-lt-WANTED.false in
     omega (arith, is, c.if-code.true)
 
 pub returns : goal.returns
-returns c = let rest = c.args.rest in
+returns c =
+    let rest = c.args.rest in
     sym (awaits_high rest 0 0 (λ e. c.if-opens-eq0.false (c.opens.ensures ∙ e)) c.if-code-lt-WANTED.false)

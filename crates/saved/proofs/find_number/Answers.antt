@@ -32,7 +32,8 @@ word-requires-then-word-number c = search rules
 
 pub returns-then-word-eq1 : goal.returns-then-word-eq1
 unfolding PARTS ROW number_place
-returns-then-word-eq1 c = let l = c.loop-i in
+returns-then-word-eq1 c =
+    let l = c.loop-i in
     let a = c.args in
     let held =
     held_at a.state.now l.i c.loop-i-test.true a.number
@@ -50,7 +51,8 @@ loop-i-smaller c = search rules
 
 pub loop-i-preserved : goal.loop-i-preserved
 unfolding PARTS ROW
-loop-i-preserved c = let l = c.loop-i in
+loop-i-preserved c =
+    let l = c.loop-i in
     let a = c.args in (
       omega arith,
       search_miss _ _ l.i blank (rw (length_told a.state.now) c.loop-i-test.true) (elim c.else-word-number.branch [
@@ -61,6 +63,7 @@ loop-i-preserved c = let l = c.loop-i in
 
 pub returns : goal.returns
 unfolding PARTS number_place
-returns c = let l = c.loop-i in
+returns c =
+    let l = c.loop-i in
     let end : 16 ≡ l.i = omega arith in
     end ∙ search_end _ _ l.i (rw (length_told c.args.state.now) c.loop-i-test.false) l.invariant.1

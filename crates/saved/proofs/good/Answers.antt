@@ -15,7 +15,8 @@ returns-then-state-ne-STATE c = let a = c.args in sym (other_length a.mark a.ask
 
 pub returns-then-not-good_head : goal.returns-then-not-good_head
 unfolding STATE HEAD PARTS
-returns-then-not-good_head c = let a = c.args in
+returns-then-not-good_head c =
+    let a = c.args in
     let w = c.word-head in
     let bad = sym c.good_head.ensures ∙ c.if-not-good_head.true in
     sym (bad_head a.mark a.asks a.state.now c.if-state-ne-STATE.false w.result w.ensures bad)
@@ -26,7 +27,8 @@ plain-requires c = search rules
 
 pub returns-then-plain : goal.returns-then-plain
 unfolding STATE HEAD PARTS
-returns-then-plain c = let left : (let a = c.args in
+returns-then-plain c =
+    let left : (let a = c.args in
     is_good a.mark a.asks a.state.now ≡ good_records (not (eqb (c.word-head.result % 256) 0)) a.asks a.state.now) = let a = c.args in
     let w = c.word-head in
     let good = sym c.good_head.ensures ∙ c.if-not-good_head.false in
@@ -36,7 +38,8 @@ returns-then-plain c = let left : (let a = c.args in
 
 pub returns-then-not-good_rows : goal.returns-then-not-good_rows
 unfolding STATE HEAD PARTS
-returns-then-not-good_rows c = let left : (let a = c.args in
+returns-then-not-good_rows c =
+    let left : (let a = c.args in
     is_good a.mark a.asks a.state.now ≡ good_records (not (eqb (c.word-head.result % 256) 0)) a.asks a.state.now) = let a = c.args in
     let w = c.word-head in
     let good = sym c.good_head.ensures ∙ c.if-not-good_head.false in
@@ -46,7 +49,8 @@ returns-then-not-good_rows c = let left : (let a = c.args in
 
 pub returns : goal.returns
 unfolding STATE HEAD PARTS
-returns c = let left : (let a = c.args in
+returns c =
+    let left : (let a = c.args in
     is_good a.mark a.asks a.state.now ≡ good_records (not (eqb (c.word-head.result % 256) 0)) a.asks a.state.now) = let a = c.args in
     let w = c.word-head in
     let good = sym c.good_head.ensures ∙ c.if-not-good_head.false in

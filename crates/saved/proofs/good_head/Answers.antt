@@ -11,15 +11,18 @@ returns-then-head-mark c = let a = c.args in rw (ne_eqb (a.head / 16777216) a.ma
 
 pub returns-then-head-gt2 : goal.returns-then-head-gt2
 unfolding good_word
-returns-then-head-gt2 c = let a = c.args in
+returns-then-head-gt2 c =
+    let a = c.args in
     rw (eq-eqb (a.head / 16777216) a.mark c.if-head-mark.false, lt-leb (a.head % 256) 2 (omega arith))
 
 pub returns-then-asks : goal.returns-then-asks
 unfolding good_word
-returns-then-asks c = let a = c.args in
+returns-then-asks c =
+    let a = c.args in
     rw (eq-eqb (a.head / 16777216) a.mark c.if-head-mark.false, le-leb (a.head % 256) 2 (omega arith), c.if-asks.true)
 
 pub returns-else-asks : goal.returns-else-asks
 unfolding good_word
-returns-else-asks c = let a = c.args in
+returns-else-asks c =
+    let a = c.args in
     rw (eq-eqb (a.head / 16777216) a.mark c.if-head-mark.false, le-leb (a.head % 256) 2 (omega arith), c.if-asks.false)

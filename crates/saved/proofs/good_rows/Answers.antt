@@ -28,7 +28,8 @@ word-rest-requires c = search rules
 
 pub returns-then-not-good_rest : goal.returns-then-not-good_rest
 unfolding PARTS ROW
-returns-then-not-good_rest c = let a = c.args in
+returns-then-not-good_rest c =
+    let a = c.args in
     let l = c.loop-i in
     let bad = sym c.good_rest.ensures ∙ c.if-not-good_rest.true in
     let here = word_not a.ready a.asks _ (rw c.word-rest.ensures at bad) in
@@ -36,7 +37,8 @@ returns-then-not-good_rest c = let a = c.args in
 
 pub returns-then-not-ready : goal.returns-then-not-ready
 unfolding PARTS ROW
-returns-then-not-ready c = let a = c.args in
+returns-then-not-ready c =
+    let a = c.args in
     let l = c.loop-i in
     let taken = sym (ap (λ (n : ℕ). n % 2) c.word-rest.ensures) ∙ c.if-rest-eq1.true in
     let here = seat_not a.ready a.asks _ taken (c.if-not-ready.true) in
@@ -44,12 +46,14 @@ returns-then-not-ready c = let a = c.args in
 
 pub overflow_add-channels : goal.overflow_add-channels
 unfolding PARTS
-overflow_add-channels c = let l = c.loop-i in
+overflow_add-channels c =
+    let l = c.loop-i in
     omega (arith, l.invariant.3, c.opens-channels.ensures, opens_most (record_of c.word-rest.result 0 0))
 
 pub overflow_add-awaited : goal.overflow_add-awaited
 unfolding PARTS MESSAGE_MAX
-overflow_add-awaited c = let l = c.loop-i in
+overflow_add-awaited c =
+    let l = c.loop-i in
     let asks = c.args.asks in
     let good = sym c.good_rest.ensures ∙ c.if-not-good_rest.false in
     omega (arith, l.invariant.4, c.awaits-awaited.ensures, awaits_most_rest asks _ good)
@@ -64,7 +68,8 @@ loop-i-smaller c = search rules
 
 pub loop-i-preserved : goal.loop-i-preserved
 unfolding PARTS ROW MESSAGE_MAX
-loop-i-preserved c = let a = c.args in
+loop-i-preserved c =
+    let a = c.args in
     let l = c.loop-i in
     let rest = c.word-rest.result in
     let told = c.word-rest.ensures in
@@ -93,7 +98,8 @@ word-requires-then-channels-word c = search rules
 
 pub returns-then-channels-word : goal.returns-then-channels-word
 unfolding PARTS CHANNELS AWAITED
-returns-then-channels-word c = let l = c.loop-i in
+returns-then-channels-word c =
+    let l = c.loop-i in
     let a = c.args in
     let all = l.invariant.0 ∙ fine_end a.ready a.asks a.state.now l.i (omega arith) in
     let sums = recounts_end a.state.now l.channels l.awaited l.i (omega arith) l.invariant.1 l.invariant.2 in
@@ -102,7 +108,8 @@ returns-then-channels-word c = let l = c.loop-i in
 
 pub returns-else-channels-word : goal.returns-else-channels-word
 unfolding PARTS CHANNELS AWAITED
-returns-else-channels-word c = let l = c.loop-i in
+returns-else-channels-word c =
+    let l = c.loop-i in
     let a = c.args in
     let all = l.invariant.0 ∙ fine_end a.ready a.asks a.state.now l.i (omega arith) in
     let sums = recounts_end a.state.now l.channels l.awaited l.i (omega arith) l.invariant.1 l.invariant.2 in

@@ -17,7 +17,8 @@ word-requires c = search rules
 
 pub returns-then-not-of_an_end : goal.returns-then-not-of_an_end
 unfolding STATE HEAD is_headed
-returns-then-not-of_an_end c = let l = c.args.state.now in
+returns-then-not-of_an_end c =
+    let l = c.args.state.now in
     let none = sym (rw c.word.ensures at c.of_an_end.ensures) ∙ c.if-not-of_an_end.true in
     sym (rw (eq-eqb (length l) STATE c.if-state-ne-STATE.false, none))
 
@@ -27,7 +28,8 @@ word-requires-2 c = search rules
 
 pub returns-then-word : goal.returns-then-word
 unfolding STATE HEAD CHANNELS PARTS is_headed
-returns-then-word c = let l = c.args.state.now in
+returns-then-word c =
+    let l = c.args.state.now in
     let one = sym (rw c.word.ensures at c.of_an_end.ensures) ∙ c.if-not-of_an_end.false in
     let many = rw c.word-2.ensures at c.if-word.true in
     sym (rw (eq-eqb (length l) STATE c.if-state-ne-STATE.false, one, lt-leb _ PARTS many))
@@ -38,7 +40,8 @@ word-requires-3 c = search rules
 
 pub returns : goal.returns
 unfolding STATE HEAD CHANNELS AWAITED PARTS STORE PART MESSAGE_MAX is_headed
-returns c = let l = c.args.state.now in
+returns c =
+    let l = c.args.state.now in
     let one = sym (rw c.word.ensures at c.of_an_end.ensures) ∙ c.if-not-of_an_end.false in
     let few = rw c.word-2.ensures at c.if-word.false in
     sym (rw (eq-eqb (length l) STATE c.if-state-ne-STATE.false, one, le-leb _ PARTS few, c.word-3.ensures))

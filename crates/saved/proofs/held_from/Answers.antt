@@ -18,7 +18,8 @@ row-record-requires c = search rules
 
 pub returns-then-record-number : goal.returns-then-record-number
 unfolding PARTS record_at
-returns-then-record-number c = let l = c.loop-i in
+returns-then-record-number c =
+    let l = c.loop-i in
     let a = c.args in
     let rs = (table_in a.state.now).records in
     let r = c.row-record in
@@ -35,7 +36,8 @@ loop-i-smaller c = search rules
 
 pub loop-i-preserved : goal.loop-i-preserved
 unfolding PARTS record_at
-loop-i-preserved c = let l = c.loop-i in
+loop-i-preserved c =
+    let l = c.loop-i in
     let a = c.args in
     let rs = (table_in a.state.now).records in
     let not_it : holds a.number c.row-record.result ≡ false =
@@ -47,6 +49,7 @@ loop-i-preserved c = let l = c.loop-i in
 
 pub returns : goal.returns
 unfolding PARTS
-returns c = let l = c.loop-i in
+returns c =
+    let l = c.loop-i in
     let state = c.args.state.now in
     sym (l.invariant ∙ some_end _ _ l.i (omega (arith, length_table state)))

@@ -23,7 +23,8 @@ overflow_add-i c = search rules
 
 pub returns-then-held_from : goal.returns-then-held_from
 unfolding PARTS record_at
-returns-then-held_from c = let l = c.loop-i in
+returns-then-held_from c =
+    let l = c.loop-i in
     let state = c.args.state.now in
     let rs = (table_in state).records in
     let r = c.row-record.result in
@@ -43,7 +44,8 @@ loop-i-smaller c = search rules
 
 pub loop-i-preserved : goal.loop-i-preserved
 unfolding PARTS record_at
-loop-i-preserved c = let l = c.loop-i in
+loop-i-preserved c =
+    let l = c.loop-i in
     let state = c.args.state.now in
     let rs = (table_in state).records in
     let r = c.row-record.result in
@@ -57,6 +59,7 @@ loop-i-preserved c = let l = c.loop-i in
 
 pub returns : goal.returns
 unfolding PARTS
-returns c = let l = c.loop-i in
+returns c =
+    let l = c.loop-i in
     let state = c.args.state.now in
     sym (l.invariant ∙ twice_end _ l.i (omega (arith, length_table state)))

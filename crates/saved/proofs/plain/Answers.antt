@@ -50,7 +50,8 @@ word-requires-then-channels-word c = search rules
 -- an awaited number's
 pub loop-i-preserved-then-rest-ge-MARK : goal.loop-i-preserved-then-rest-ge-MARK
 unfolding ROW
-loop-i-preserved-then-rest-ge-MARK c = let turn : (more wait sum still : ℕ)
+loop-i-preserved-then-rest-ge-MARK c =
+    let turn : (more wait sum still : ℕ)
     → (let a = c.args in
     let l = c.loop-i in
     Adds a.ready a.asks c.word-rest.result more wait
@@ -74,7 +75,8 @@ loop-i-preserved-then-rest-ge-MARK c = let turn : (more wait sum still : ℕ)
 -- an open channel's with a message
 pub loop-i-preserved-then-rest-ge16 : goal.loop-i-preserved-then-rest-ge16
 unfolding MESSAGE_MAX ROW
-loop-i-preserved-then-rest-ge16 c = let turn : (more wait sum still : ℕ)
+loop-i-preserved-then-rest-ge16 c =
+    let turn : (more wait sum still : ℕ)
     → (let a = c.args in
     let l = c.loop-i in
     Adds a.ready a.asks c.word-rest.result more wait
@@ -97,7 +99,8 @@ loop-i-preserved-then-rest-ge16 c = let turn : (more wait sum still : ℕ)
 -- and with none
 pub loop-i-preserved-else-rest-ge16 : goal.loop-i-preserved-else-rest-ge16
 unfolding ROW
-loop-i-preserved-else-rest-ge16 c = let turn : (more wait sum still : ℕ)
+loop-i-preserved-else-rest-ge16 c =
+    let turn : (more wait sum still : ℕ)
     → (let a = c.args in
     let l = c.loop-i in
     Adds a.ready a.asks c.word-rest.result more wait
@@ -119,7 +122,8 @@ loop-i-preserved-else-rest-ge16 c = let turn : (more wait sum still : ℕ)
 -- a free record's
 pub loop-i-preserved : goal.loop-i-preserved
 unfolding ROW
-loop-i-preserved c = let l = c.loop-i in
+loop-i-preserved c =
+    let l = c.loop-i in
     let a = c.args in
     let none = sym c.word-rest.ensures ∙ c.if-rest-ne0.false in
     (l.invariant.0, sofar_free a.ready a.asks a.state.now l.marks l.channels l.awaited l.i (omega arith) l.invariant.1 none)
@@ -127,7 +131,8 @@ loop-i-preserved c = let l = c.loop-i in
 -- ---- the totals
 pub returns-then-channels-word : goal.returns-then-channels-word
 unfolding CHANNELS AWAITED PARTS
-returns-then-channels-word c = let l = c.loop-i in
+returns-then-channels-word c =
+    let l = c.loop-i in
     let a = c.args in
     let channels = c.if-channels-word.true ∙ c.word-2.ensures in
     λ e.

@@ -14,7 +14,8 @@ pub overflow_mul-result-3 : goal.overflow_mul-result-3
 overflow_mul-result-3 c = omega (arith, bit_most c.args.«record».awaited _ c.bit-2.ensures)
 
 pub overflow_add-result-3 : goal.overflow_add-result-3
-overflow_add-result-3 c = let r = c.args.«record» in
+overflow_add-result-3 c =
+    let r = c.args.«record» in
     omega (arith, bit_most r.awaited _ c.bit-2.ensures, bit_most r.taken _ c.bit.ensures)
 
 pub returns : goal.returns

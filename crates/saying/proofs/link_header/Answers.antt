@@ -5,5 +5,6 @@ use Rattle.saying.proofs.link_header.Goals as goal
 
 pub returns : goal.returns
 unfolding link_header
-returns c = let did = c.text.ensures in
+returns c =
+    let did = c.text.ensures in
     record { value = (did.value, omega (arith, did.value)); out_after = did.out_after }

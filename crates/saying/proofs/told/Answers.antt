@@ -11,7 +11,8 @@ use Rattle.saying.proofs.told.Goals as goal
 
 pub returns : goal.returns
 unfolding said_text
-returns c = let a = c.args in
+returns c =
+    let a = c.args in
     let out = a.out.now in
     let f1 = said_field (word_said a.said) in
     let f2 = channel_field (concern_said a.said) in

@@ -24,7 +24,8 @@ overflow_cast-t-3 c = search rules
 
 pub returns-then-find_number-ge-PARTS : goal.returns-then-find_number-ge-PARTS
 unfolding PARTS
-returns-then-find_number-ge-PARTS c = let l = c.loop-number in
+returns-then-find_number-ge-PARTS c =
+    let l = c.loop-number in
     let t = c.args.table in
     let place = found_place l.number t _ c.find_number.ensures in
     sym (hit l.number t (omega (arith, c.loop-number-test.true)) (rw (← place) c.if-find_number-ge-PARTS.true)) ∙ l.invariant.1
@@ -39,7 +40,8 @@ loop-number-smaller c = omega (arith, c.loop-number-test.true)
 
 pub loop-number-preserved : goal.loop-number-preserved
 unfolding PARTS
-loop-number-preserved c = let l = c.loop-number in
+loop-number-preserved c =
+    let l = c.loop-number in
     let t = c.args.table in
     let test = c.loop-number-test.true in
     let place = found_place l.number t _ c.find_number.ensures in
@@ -48,5 +50,6 @@ loop-number-preserved c = let l = c.loop-number in
 
 pub returns : goal.returns
 unfolding PARTS
-returns c = let l = c.loop-number in
+returns c =
+    let l = c.loop-number in
     sym (behind l.number c.args.table (omega (arith, c.loop-number-test.false))) ∙ l.invariant.1

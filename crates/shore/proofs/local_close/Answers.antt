@@ -5,4 +5,4 @@ use Rattle.shore.proofs.local_close.Goals as goal
 
 pub returns : goal.returns
 unfolding locally_closed
-returns c = rw (c.closing.ensures, event_closing) at c.step.ensures  -- TODO record value store_after reply_after
+returns c = rw (c.closing.ensures, event_closing) at c.step.ensures

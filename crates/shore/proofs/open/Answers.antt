@@ -15,19 +15,22 @@ use borrow.Author.Tests.{not-true, not-false}
 use Rattle.shore.proofs.open.Goals as goal
 
 pub returns-then-bad_out : goal.returns-then-bad_out
-returns-then-bad_out c = let a = c.args in
+returns-then-bad_out c =
+    let a = c.args in
     let bad = sym c.bad_out.ensures ∙ c.if-bad_out.true in
     let both = unsent a.shore BadCall a.out.now _ _ (open_refuses a.shore a.name.now a.class a.out.now bad) c.unsent.ensures in record { value = both.0; out_after = both.1 }
 
 pub returns-then-not-table : goal.returns-then-not-table
-returns-then-not-table c = let a = c.args in
+returns-then-not-table c =
+    let a = c.args in
     let good = sym c.bad_out.ensures ∙ c.if-bad_out.false in
     let both = unsent a.shore WrongTime a.out.now _ _ (open_early a.shore a.name.now a.class a.out.now good (not-true _ c.if-not-table.true))
     c.unsent-then-not-table.ensures in record { value = both.0; out_after = both.1 }
 
 pub returns-then-k-ge-PARTS : goal.returns-then-k-ge-PARTS
 unfolding PARTS
-returns-then-k-ge-PARTS c = let a = c.args in
+returns-then-k-ge-PARTS c =
+    let a = c.args in
     let good = sym c.bad_out.ensures ∙ c.if-bad_out.false in
     let full : PARTS ≤ free_place a.shore.table = rw (← c.find_free-k.ensures) c.if-k-ge-PARTS.true in
     let both = unsent a.shore AllTaken a.out.now _ _
@@ -35,7 +38,8 @@ returns-then-k-ge-PARTS c = let a = c.args in
 
 pub returns-in-Refused : goal.returns-in-Refused
 unfolding PARTS
-returns-in-Refused c = let a = c.args in
+returns-in-Refused c =
+    let a = c.args in
     let s = a.shore in
     let out = a.out.now in
     let good = sym c.bad_out.ensures ∙ c.if-bad_out.false in
@@ -47,7 +51,8 @@ returns-in-Refused c = let a = c.args in
 
 pub returns-in-Length : goal.returns-in-Length
 unfolding PARTS
-returns-in-Length c = let sixteen : length c.args.shore.table.records ≡ PARTS = search (rules, length_mapped, c.well_formed) in
+returns-in-Length c =
+    let sixteen : length c.args.shore.table.records ≡ PARTS = search (rules, length_mapped, c.well_formed) in
     let a = c.args in
     let s = a.shore in
     let out = a.out.now in

@@ -7,5 +7,6 @@ use Rattle.shore.proofs.receive.Goals as goal
 
 pub returns : goal.returns
 unfolding received
-returns c = let a = c.args in
-    rw (← event_heard a.pdu.now (read_pdu false a.pdu.now), ← c.hear.ensures) c.step.ensures  -- TODO record value store_after reply_after
+returns c =
+    let a = c.args in
+    rw (← event_heard a.pdu.now (read_pdu false a.pdu.now), ← c.hear.ensures) c.step.ensures

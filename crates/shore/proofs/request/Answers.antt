@@ -6,17 +6,20 @@ use Rattle.shore.proofs.Calls.{request_refuses, unsent, roomy, requests, second,
 use Rattle.shore.proofs.request.Goals as goal
 
 pub returns-then-bad_out : goal.returns-then-bad_out
-returns-then-bad_out c = let a = c.args in
+returns-then-bad_out c =
+    let a = c.args in
     let bad = sym c.bad_out.ensures ∙ c.if-bad_out.true in
     let both = unsent a.shore BadCall a.out.now _ _ (request_refuses a.shore a.version a.charges a.out.now bad) c.unsent.ensures in record { value = both.0; out_after = both.1 }
 
 pub returns-then-shore-ne0 : goal.returns-then-shore-ne0
-returns-then-shore-ne0 c = let a = c.args in
+returns-then-shore-ne0 c =
+    let a = c.args in
     let good = sym c.bad_out.ensures ∙ c.if-bad_out.false in
     let both = unsent a.shore WrongTime a.out.now _ _ (second a.shore a.version a.charges a.out.now good c.if-shore-ne0.true) c.unsent-then-shore-ne0.ensures in record { value = both.0; out_after = both.1 }
 
 pub returns-in-Refused : goal.returns-in-Refused
-returns-in-Refused c = let a = c.args in
+returns-in-Refused c =
+    let a = c.args in
     let s = a.shore in
     let out = a.out.now in
     let good = sym c.bad_out.ensures ∙ c.if-bad_out.false in
@@ -26,7 +29,8 @@ returns-in-Refused c = let a = c.args in
     c.in-Refused.is c.unsent-in-Refused.ensures) in record { value = both.0; out_after = both.1 }
 
 pub returns-in-Length : goal.returns-in-Length
-returns-in-Length c = let a = c.args in
+returns-in-Length c =
+    let a = c.args in
     let s = a.shore in
     let out = a.out.now in
     let good = sym c.bad_out.ensures ∙ c.if-bad_out.false in

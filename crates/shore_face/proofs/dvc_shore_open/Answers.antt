@@ -28,13 +28,15 @@ use Rattle.shore_face.proofs.dvc_shore_open.Goals as goal
 
 pub returns-then-bad_out : goal.returns-then-bad_out
 unfolding dvc_shore_opened locally_opened
-returns-then-bad_out c = let a = c.args in
+returns-then-bad_out c =
+    let a = c.args in
     let both = out_bad a.state.now a.out.now _ _ (λ i. search rules) (sym c.bad_out.ensures ∙ c.if-bad_out.true) c.refused.ensures in
     record { value = both.0; state_after = both.1.0; out_after = both.1.1 }
 
 pub returns-then-not-head : goal.returns-then-not-head
 unfolding dvc_shore_opened shore_in PARTS
-returns-then-not-head c = let a = c.args in
+returns-then-not-head c =
+    let a = c.args in
     let l = a.state.now in
     let out = a.out.now in
     let good = fair_out l (length out) (sym c.bad_out.ensures ∙ c.if-bad_out.false) in
@@ -44,14 +46,16 @@ returns-then-not-head c = let a = c.args in
     record { value = both.0; state_after = both.1.0; out_after = both.1.1 }
 
 pub least_number-number-requires : goal.least_number-number-requires
-least_number-number-requires c = let a = c.args in
+least_number-number-requires c =
+    let a = c.args in
     let l = a.state.now in
     let good = fair_out l (length a.out.now) (sym c.bad_out.ensures ∙ c.if-bad_out.false) in
     saved_size SHORE l (good_saved SHORE true l good.0)
 
 pub returns-then-k-ge-PARTS : goal.returns-then-k-ge-PARTS
 unfolding dvc_shore_opened shore_in PARTS
-returns-then-k-ge-PARTS c = let a = c.args in
+returns-then-k-ge-PARTS c =
+    let a = c.args in
     let l = a.state.now in
     let out = a.out.now in
     let good = fair_out l (length out) (sym c.bad_out.ensures ∙ c.if-bad_out.false) in
@@ -64,7 +68,8 @@ returns-then-k-ge-PARTS c = let a = c.args in
 
 pub returns-in-Refused : goal.returns-in-Refused
 unfolding dvc_shore_opened shore_in PARTS
-returns-in-Refused c = let a = c.args in
+returns-in-Refused c =
+    let a = c.args in
     let l = a.state.now in
     let s = shore_in l in
     let n = least_number (table_in l) in
@@ -84,7 +89,8 @@ returns-in-Refused c = let a = c.args in
 
 pub returns-in-Length : goal.returns-in-Length
 unfolding dvc_shore_opened shore_in saved_shore PARTS concern_said
-returns-in-Length c = let a = c.args in
+returns-in-Length c =
+    let a = c.args in
     let l = a.state.now in
     let t = table_in l in
     let s = shore_in l in

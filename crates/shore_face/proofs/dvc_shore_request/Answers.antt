@@ -21,13 +21,15 @@ use Rattle.shore_face.proofs.dvc_shore_request.Goals as goal
 
 pub returns-then-bad_out : goal.returns-then-bad_out
 unfolding dvc_shore_requested requested
-returns-then-bad_out c = let a = c.args in
+returns-then-bad_out c =
+    let a = c.args in
     let both = out_bad a.state.now a.out.now _ _ (λ i. search rules) (sym c.bad_out.ensures ∙ c.if-bad_out.true) c.refused.ensures in
     record { value = both.0; state_after = both.1.0; out_after = both.1.1 }
 
 pub returns-then-read_head-ne0 : goal.returns-then-read_head-ne0
 unfolding dvc_shore_requested shore_in PARTS
-returns-then-read_head-ne0 c = let a = c.args in
+returns-then-read_head-ne0 c =
+    let a = c.args in
     let l = a.state.now in
     let out = a.out.now in
     let good = fair_out l (length out) (sym c.bad_out.ensures ∙ c.if-bad_out.false) in
@@ -38,7 +40,8 @@ returns-then-read_head-ne0 c = let a = c.args in
 
 pub returns-in-Refused : goal.returns-in-Refused
 unfolding dvc_shore_requested shore_in PARTS
-returns-in-Refused c = let a = c.args in
+returns-in-Refused c =
+    let a = c.args in
     let l = a.state.now in
     let s = shore_in l in
     let out = a.out.now in
@@ -54,7 +57,8 @@ returns-in-Refused c = let a = c.args in
 
 pub returns-in-Length : goal.returns-in-Length
 unfolding dvc_shore_requested shore_in saved_shore PARTS concern_said
-returns-in-Length c = let a = c.args in
+returns-in-Length c =
+    let a = c.args in
     let l = a.state.now in
     let s = shore_in l in
     let out = a.out.now in

@@ -7,13 +7,15 @@ use Rattle.shore_face.proofs.dvc_shore_start.Goals as goal
 
 pub returns-then-state-ne-STATE : goal.returns-then-state-ne-STATE
 unfolding STATE
-returns-then-state-ne-STATE c = let a = c.args in
+returns-then-state-ne-STATE c =
+    let a = c.args in
     let both = start_short a.state.now a.store.now c.if-state-ne-STATE.true in
     record { value = both.0; state_after = both.1.0; store_after = both.1.1 }
 
 pub returns-in-Done : goal.returns-in-Done
 unfolding STATE
-returns-in-Done c = let a = c.args in
+returns-in-Done c =
+    let a = c.args in
     let s = c.start-begun.ensures in
     let both = start_done a.state.now a.store.now c.if-state-ne-STATE.false _ (ap (λ (x : Started). x.begun) s.value) _ s.store_after _
     c.in-Done.is c.begin.ensures in
@@ -21,7 +23,8 @@ returns-in-Done c = let a = c.args in
 
 pub returns-in-Refused : goal.returns-in-Refused
 unfolding STATE
-returns-in-Refused c = let a = c.args in
+returns-in-Refused c =
+    let a = c.args in
     let s = c.start-begun.ensures in
     let both = start_not a.state.now a.store.now c.if-state-ne-STATE.false _ (ap (λ (x : Started). x.begun) s.value) _ s.store_after _ c.in-Refused.is in
     record { value = both.0; state_after = both.1.0; store_after = both.1.1 }

@@ -19,7 +19,8 @@ overflow_cast-t-4 c = search rules
 
 pub returns-then-not-row : goal.returns-then-not-row
 unfolding PARTS
-returns-then-not-row c = let n = c.loop-number.number in
+returns-then-not-row c =
+    let n = c.loop-number.number in
     let l = c.args.state.now in
     let none = no_seat n l _ c.requires c.find.ensures (not-true _ c.if-not-row.true) in
     sym (hit n (table_in l) (omega (arith, c.loop-number-test.true)) none) ∙ c.loop-number.invariant.1
@@ -34,7 +35,8 @@ loop-number-smaller c = omega (arith, c.loop-number-test.true)
 
 pub loop-number-preserved : goal.loop-number-preserved
 unfolding PARTS
-loop-number-preserved c = let n = c.loop-number.number in
+loop-number-preserved c =
+    let n = c.loop-number.number in
     let l = c.args.state.now in
     let test = c.loop-number-test.true in
     let has = seat n l _ c.requires c.find.ensures (not-false _ c.if-not-row.false) in
@@ -42,5 +44,6 @@ loop-number-preserved c = let n = c.loop-number.number in
 
 pub returns : goal.returns
 unfolding PARTS
-returns c = let l = c.loop-number in
+returns c =
+    let l = c.loop-number in
     sym (behind l.number (table_in c.args.state.now) (omega (arith, c.loop-number-test.false))) ∙ l.invariant.1

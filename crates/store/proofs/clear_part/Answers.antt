@@ -17,7 +17,8 @@ returns-then-not-has_part c = sym (cleared_nowhere _ _ (sym c.has_part.ensures �
 
 pub overflow_mul-start : goal.overflow_mul-start
 unfolding PART MESSAGE_MAX
-overflow_mul-start c = let there : has_part (length c.args.store.now)
+overflow_mul-start c =
+    let there : has_part (length c.args.store.now)
     c.args.k ≡ true = sym c.has_part.ensures ∙ c.if-not-has_part.false in
     let fits : PART * c.args.k + PART ≤ length
     c.args.store.now = inside c.args.store.now c.args.k (there) in
@@ -25,7 +26,8 @@ overflow_mul-start c = let there : has_part (length c.args.store.now)
 
 pub overflow_add-start : goal.overflow_add-start
 unfolding PART MESSAGE_MAX
-overflow_add-start c = let there : has_part (length c.args.store.now)
+overflow_add-start c =
+    let there : has_part (length c.args.store.now)
     c.args.k ≡ true = sym c.has_part.ensures ∙ c.if-not-has_part.false in
     let fits : PART * c.args.k + PART ≤ length
     c.args.store.now = inside c.args.store.now c.args.k (there) in
@@ -33,7 +35,8 @@ overflow_add-start c = let there : has_part (length c.args.store.now)
 
 pub slice_bounds-clear-end : goal.slice_bounds-clear-end
 unfolding PART MESSAGE_MAX
-slice_bounds-clear-end c = let there : has_part (length c.args.store.now)
+slice_bounds-clear-end c =
+    let there : has_part (length c.args.store.now)
     c.args.k ≡ true = sym c.has_part.ensures ∙ c.if-not-has_part.false in
     let fits : PART * c.args.k + PART ≤ length
     c.args.store.now = inside c.args.store.now c.args.k (there) in
@@ -41,7 +44,8 @@ slice_bounds-clear-end c = let there : has_part (length c.args.store.now)
 
 pub returns : goal.returns
 unfolding PART MESSAGE_MAX
-returns c = let there : has_part (length c.args.store.now)
+returns c =
+    let there : has_part (length c.args.store.now)
     c.args.k ≡ true = sym c.has_part.ensures ∙ c.if-not-has_part.false in
     let there : has_part (length c.args.store.now)
     c.args.k ≡ true = sym c.has_part.ensures ∙ c.if-not-has_part.false in

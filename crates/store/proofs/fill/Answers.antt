@@ -10,7 +10,8 @@ use Rattle.store.proofs.fill.Goals as goal
 
 pub returns-then-at-ge-PART : goal.returns-then-at-ge-PART
 unfolding PART MESSAGE_MAX
-returns-then-at-ge-PART c = let a = c.args in
+returns-then-at-ge-PART c =
+    let a = c.args in
     sym (laid_past a.part.now a.at a.block.now (omega (arith, c.requires, c.if-at-ge-PART.true)))
 
 pub slice_bounds-between-end-2 : goal.slice_bounds-between-end-2

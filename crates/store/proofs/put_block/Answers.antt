@@ -17,7 +17,8 @@ returns-then-not-has_part c = sym (put_nowhere _ _ _ _ (sym c.has_part.ensures �
 
 pub overflow_mul-start : goal.overflow_mul-start
 unfolding PART MESSAGE_MAX
-overflow_mul-start c = let there : has_part (length c.args.store.now)
+overflow_mul-start c =
+    let there : has_part (length c.args.store.now)
     c.args.k ≡ true = sym c.has_part.ensures ∙ c.if-not-has_part.false in
     let fits : PART * c.args.k + PART ≤ length
     c.args.store.now = inside c.args.store.now c.args.k
@@ -26,7 +27,8 @@ overflow_mul-start c = let there : has_part (length c.args.store.now)
 
 pub overflow_add-start : goal.overflow_add-start
 unfolding PART MESSAGE_MAX
-overflow_add-start c = let there : has_part (length c.args.store.now)
+overflow_add-start c =
+    let there : has_part (length c.args.store.now)
     c.args.k ≡ true = sym c.has_part.ensures ∙ c.if-not-has_part.false in
     let fits : PART * c.args.k + PART ≤ length
     c.args.store.now = inside c.args.store.now c.args.k
@@ -35,7 +37,8 @@ overflow_add-start c = let there : has_part (length c.args.store.now)
 
 pub slice_bounds-fill-end : goal.slice_bounds-fill-end
 unfolding PART MESSAGE_MAX
-slice_bounds-fill-end c = let there : has_part (length c.args.store.now)
+slice_bounds-fill-end c =
+    let there : has_part (length c.args.store.now)
     c.args.k ≡ true = sym c.has_part.ensures ∙ c.if-not-has_part.false in
     let fits : PART * c.args.k + PART ≤ length
     c.args.store.now = inside c.args.store.now c.args.k
@@ -45,7 +48,8 @@ slice_bounds-fill-end c = let there : has_part (length c.args.store.now)
 -- what is lent is a part
 pub fill-requires : goal.fill-requires
 unfolding PART MESSAGE_MAX
-fill-requires c = let there : has_part (length c.args.store.now)
+fill-requires c =
+    let there : has_part (length c.args.store.now)
     c.args.k ≡ true = sym c.has_part.ensures ∙ c.if-not-has_part.false in
     let fits : PART * c.args.k + PART ≤ length
     c.args.store.now = inside c.args.store.now c.args.k
@@ -55,7 +59,8 @@ fill-requires c = let there : has_part (length c.args.store.now)
 
 pub returns : goal.returns
 unfolding PART MESSAGE_MAX
-returns c = let there : has_part (length c.args.store.now)
+returns c =
+    let there : has_part (length c.args.store.now)
     c.args.k ≡ true = sym c.has_part.ensures ∙ c.if-not-has_part.false in
     let there : has_part (length c.args.store.now)
     c.args.k ≡ true = sym c.has_part.ensures ∙ c.if-not-has_part.false in

@@ -1,11 +1,6 @@
 -- `table::changed` meets its contract: both totals are moved.
 use mathlib.Core.Path.{refl}
 use Rattle.table.specs.Totals.{changed}
-use Rattle.table.proofs.changed.Reads as reads
-use Rattle.table.proofs.changed.Lts as lts
-use Rattle.table.proofs.awaits.Reads as awaits-reads
-use Rattle.table.proofs.moved.Reads as moved-reads
-use Rattle.table.proofs.opens.Reads as opens-reads
 use Rattle.table.proofs.changed.Goals as goal
 
 pub returns : goal.returns

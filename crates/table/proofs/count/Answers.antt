@@ -6,9 +6,6 @@ use Rattle.table.specs.Totals.{opens}
 use Rattle.table.proofs.Recount.{total_on, total_end, opens_most}
 use borrow.Author.Rules.{rules}
 use native.Mathlib.Omega.{arith}
-use Rattle.table.proofs.count.Reads as reads
-use Rattle.table.proofs.count.Lts as lts
-use Rattle.table.proofs.opens.Reads as opens-reads
 use Rattle.table.proofs.count.Goals as goal
 
 pub loop-i-init : goal.loop-i-init
@@ -25,7 +22,8 @@ bounds-table-i c = search rules
 
 pub overflow_add-channels : goal.overflow_add-channels
 unfolding PARTS
-overflow_add-channels c = let l = c.loop-i in
+overflow_add-channels c =
+    let l = c.loop-i in
     let r = get_or c.args.table.records l.i blank in
     omega (arith, l.invariant.1, c.opens-channels.ensures, opens_most r)
 
@@ -39,13 +37,15 @@ loop-i-smaller c = search rules
 
 pub loop-i-preserved : goal.loop-i-preserved
 unfolding PARTS
-loop-i-preserved c = let l = c.loop-i in
+loop-i-preserved c =
+    let l = c.loop-i in
     let rs = c.args.table.records in
     let one = c.opens-channels.ensures in
     (l.invariant.0, omega (arith, l.invariant.1, one, opens_most (get_or rs l.i blank)), omega (arith, l.invariant.2, one, total_on opens rs l.i (omega (arith, l.invariant.0))))
 
 pub returns : goal.returns
 unfolding PARTS
-returns c = let l = c.loop-i in
+returns c =
+    let l = c.loop-i in
     let rs = c.args.table.records in
     omega (arith, l.invariant.2, total_end opens rs l.i (omega (arith, l.invariant.0)))

@@ -4,9 +4,6 @@ use Prim.Native.Nat.{◌+◌, ◌-◌, ◌≤◌}
 use lib.ListN.{length, drop}
 use Rattle.paper.specs.Sizes.{PARTS}
 use Rattle.table.specs.Totals.{opens, total}
-use Rattle.table.proofs.count.Reads as reads
-use Rattle.table.proofs.count.Lts as lts
-use Rattle.table.proofs.opens.Reads as opens-reads
 use Rattle.table.proofs.count.Given as goal
 
 abbrev pub invariant-loop-i : goal.invariant-loop-i

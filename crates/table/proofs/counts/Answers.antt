@@ -1,8 +1,5 @@
 -- `table::counts` meets its contract: its test is the definition's.
 use mathlib.Core.Path.{refl}
-use Rattle.table.proofs.counts.Reads as reads
-use Rattle.table.proofs.counts.Lts as lts
-use Rattle.table.proofs.is_open.Reads as is-open-reads
 use Rattle.table.proofs.counts.Goals as goal
 
 pub returns-then-marked : goal.returns-then-marked

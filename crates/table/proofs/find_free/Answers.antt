@@ -30,15 +30,18 @@ loop-i-smaller c = search rules
 
 pub loop-i-preserved : goal.loop-i-preserved
 unfolding PARTS is_free
-loop-i-preserved c = let l = c.loop-i in
+loop-i-preserved c =
+    let l = c.loop-i in
     (omega arith, l.invariant.1, search_miss _ _ l.i blank (omega arith) c.if-not-record.false l.invariant.2)
 
 pub returns-then-i-eq-PARTS : goal.returns-then-i-eq-PARTS
 unfolding PARTS free_place is_free
-returns-then-i-eq-PARTS c = let l = c.loop-i in
+returns-then-i-eq-PARTS c =
+    let l = c.loop-i in
     sym c.if-i-eq-PARTS.true ∙ search_end _ _ l.i (omega arith) l.invariant.2
 
 pub returns-then-not-record : goal.returns-then-not-record
 unfolding PARTS free_place is_free
-returns-then-not-record c = let l = c.loop-i in
+returns-then-not-record c =
+    let l = c.loop-i in
     search_hit _ _ l.i blank (omega arith) c.if-not-record.true l.invariant.2

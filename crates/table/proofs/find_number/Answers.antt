@@ -3,7 +3,7 @@ use Rattle.paper.specs.Sizes.{PARTS}
 use Rattle.lists.proofs.Places.{search_hit, search_miss, search_end}
 use Rattle.lists.proofs.Arrays.{length_mapped}
 use Rattle.channel.specs.Channel.{blank}
-use Rattle.table.specs.Table.{holds, number_place, record_at}
+use Rattle.table.specs.Table.{number_place, record_at}
 use Rattle.table.proofs.Records.{found_none, found_there}
 use borrow.Author.Rules.{rules}
 use native.Mathlib.Omega.{arith}
@@ -31,15 +31,18 @@ loop-k-smaller c = search rules
 
 pub loop-k-preserved : goal.loop-k-preserved
 unfolding PARTS
-loop-k-preserved c = let l = c.loop-k in
+loop-k-preserved c =
+    let l = c.loop-k in
     (omega arith, l.invariant.1, search_miss _ _ l.k blank (omega arith) (sym c.holds.ensures ∙ c.if-holds.false) l.invariant.2)
 
 pub returns-then-k-eq-PARTS : goal.returns-then-k-eq-PARTS
 unfolding PARTS number_place
-returns-then-k-eq-PARTS c = let l = c.loop-k in
+returns-then-k-eq-PARTS c =
+    let l = c.loop-k in
     found_none _ _ l.k _ (omega arith) c.blank-row.ensures (search_end _ _ l.k (omega arith) l.invariant.2)
 
 pub returns-then-holds : goal.returns-then-holds
 unfolding PARTS number_place record_at
-returns-then-holds c = let l = c.loop-k in
+returns-then-holds c =
+    let l = c.loop-k in
     found_there _ _ l.k (search_hit _ _ l.k blank (omega arith) (sym c.holds.ensures ∙ c.if-holds.true) l.invariant.2)

@@ -3,7 +3,6 @@ use Rattle.paper.specs.Sizes.{PARTS}
 use Rattle.lists.proofs.Places.{search_hit, search_miss, search_end}
 use Rattle.lists.proofs.Arrays.{length_mapped}
 use Rattle.channel.specs.Channel.{blank}
-use Rattle.table.specs.Totals.{is_open}
 use Rattle.table.specs.Table.{open_place, record_at}
 use Rattle.table.proofs.Records.{open_none, open_there}
 use borrow.Author.Rules.{rules}
@@ -32,15 +31,18 @@ loop-k-smaller c = search rules
 
 pub loop-k-preserved : goal.loop-k-preserved
 unfolding PARTS
-loop-k-preserved c = let l = c.loop-k in
+loop-k-preserved c =
+    let l = c.loop-k in
     (omega arith, l.invariant.1, search_miss _ _ l.k blank (omega arith) (sym c.is_open.ensures ∙ c.if-is_open.false) l.invariant.2)
 
 pub returns-then-k-eq-PARTS : goal.returns-then-k-eq-PARTS
 unfolding PARTS open_place
-returns-then-k-eq-PARTS c = let l = c.loop-k in
+returns-then-k-eq-PARTS c =
+    let l = c.loop-k in
     open_none _ l.k _ (omega arith) c.blank-row.ensures (search_end _ _ l.k (omega arith) l.invariant.2)
 
 pub returns-then-is_open : goal.returns-then-is_open
 unfolding PARTS open_place record_at
-returns-then-is_open c = let l = c.loop-k in
+returns-then-is_open c =
+    let l = c.loop-k in
     open_there _ l.k (search_hit _ _ l.k blank (omega arith) (sym c.is_open.ensures ∙ c.if-is_open.true) l.invariant.2)

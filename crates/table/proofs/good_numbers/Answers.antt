@@ -1,20 +1,17 @@
 -- `table::good_numbers` meets its contract: where marks don't decide, the pairs and a count do.
 use mathlib.Core.Path.{sym, ◌∙◌}
 use borrow.Author.Tests.{eq-eqb}
-use Rattle.table.proofs.good_numbers.Reads as reads
-use Rattle.table.proofs.good_numbers.Lts as lts
-use Rattle.table.proofs.count.Reads as count-reads
-use Rattle.table.proofs.marks_apart.Reads as marks-apart-reads
-use Rattle.table.proofs.pairs_apart.Reads as pairs-apart-reads
 use Rattle.table.proofs.good_numbers.Goals as goal
 
 pub returns-then-marks_apart : goal.returns-then-marks_apart
-returns-then-marks_apart c = let both = c.marks_apart.ensures c.if-marks_apart.true in
+returns-then-marks_apart c =
+    let both = c.marks_apart.ensures c.if-marks_apart.true in
     sym (rw (both.0, eq-eqb _ _ (sym both.1)))
 
 pub returns-then-not-pairs_apart : goal.returns-then-not-pairs_apart
 returns-then-not-pairs_apart c = sym (rw (sym c.pairs_apart.ensures ∙ c.if-not-pairs_apart.true))
 
 pub returns : goal.returns
-returns c = let apart = sym c.pairs_apart.ensures ∙ c.if-not-pairs_apart.false in
+returns c =
+    let apart = sym c.pairs_apart.ensures ∙ c.if-not-pairs_apart.false in
     rw (apart, c.count.ensures)

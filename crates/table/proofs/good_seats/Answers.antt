@@ -1,9 +1,8 @@
 use mathlib.Core.Path.{◌≡◌, refl, sym, ◌∙◌}
 use mathlib.Core.Bool.{Bool, true, false}
-use mathlib.Core.Logic.{⊎_elim}
 use Prim.Native.Nat.{◌≤◌, ◌<◌}
 use lib.ListN.{get_or}
-use borrow.Author.Tests.{le-leb, lt-leb, not-false}
+use borrow.Author.Tests.{le-leb, lt-leb}
 use lib.Dec.{leb}
 use Rattle.paper.specs.Sizes.{PARTS}
 use Rattle.lists.proofs.Arrays.{length_mapped}
@@ -14,8 +13,6 @@ use Rattle.table.specs.Sound.{good_seat}
 use Rattle.table.proofs.Every.{every_not, every_on, every_end}
 use borrow.Author.Rules.{rules}
 use native.Mathlib.Omega.{arith}
-use Rattle.table.proofs.good_seats.Reads as reads
-use Rattle.table.proofs.good_seats.Lts as lts
 use Rattle.table.proofs.good_seats.Goals as goal
 use Rattle.table.proofs.good_seats.Goals.{then-record+else-not-table, else-record}
 
@@ -51,13 +48,15 @@ bounds-table-i c = search rules
 
 pub returns-then-record-gt3 : goal.returns-then-record-gt3
 unfolding PARTS
-returns-then-record-gt3 c = let l = c.loop-i in
+returns-then-record-gt3 c =
+    let l = c.loop-i in
     let t = c.args.table in
     sym (l.invariant.1 ∙ every_not _ _ l.i blank (omega arith) (over t.ready (get_or t.records l.i blank) c.if-record-gt3.true))
 
 pub returns-then-not-table : goal.returns-then-not-table
 unfolding PARTS
-returns-then-not-table c = let l = c.loop-i in
+returns-then-not-table c =
+    let l = c.loop-i in
     let t = c.args.table in
     let shut = c.if-not-table.true in
     sym (l.invariant.1 ∙ every_not _ _ l.i blank (omega arith) (too_soon_law t.ready (get_or t.records l.i blank) shut c.if-record.true))
@@ -72,17 +71,19 @@ loop-i-smaller c = search rules
 
 pub loop-i-preserved : goal.loop-i-preserved
 unfolding PARTS
-loop-i-preserved c = let l = c.loop-i in
+loop-i-preserved c =
+    let l = c.loop-i in
     let t = c.args.table in
     let r = get_or t.records l.i blank in
     let class : r.class ≤ 3 = omega (arith, c.if-record-gt3.false) in
     let good : good_seat t.ready r ≡ true = elim c.if-record.branch [
-      then-record+else-not-table w ↦ open_good t.ready r class w.if-not-table.false
-    | else-record w ↦ free_good t.ready r class w.if-record.false
+      | then-record+else-not-table w ↦ open_good t.ready r class w.if-not-table.false
+      | else-record w ↦ free_good t.ready r class w.if-record.false
     ] in
     (l.invariant.0, l.invariant.1 ∙ every_on _ _ l.i blank (omega arith) good)
 
 pub returns : goal.returns
 unfolding PARTS
-returns c = let l = c.loop-i in
+returns c =
+    let l = c.loop-i in
     sym (l.invariant.1 ∙ every_end _ _ l.i (omega arith))

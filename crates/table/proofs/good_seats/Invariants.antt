@@ -4,8 +4,6 @@ use Prim.Native.Nat.{◌-◌}
 use lib.ListN.{length, drop}
 use Rattle.paper.specs.Sizes.{PARTS}
 use Rattle.table.specs.Sound.{good_seat, every}
-use Rattle.table.proofs.good_seats.Reads as reads
-use Rattle.table.proofs.good_seats.Lts as lts
 use Rattle.table.proofs.good_seats.Given as goal
 
 abbrev pub invariant-loop-i : goal.invariant-loop-i

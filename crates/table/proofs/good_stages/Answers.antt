@@ -1,10 +1,6 @@
 -- `table::good_stages` meets its contract: the pass meets it, with or without the mark.
 use mathlib.Core.Path.{sym, ◌∙◌}
 use Rattle.lists.proofs.Cases.{true_not_false}
-use Rattle.table.proofs.good_stages.Reads as reads
-use Rattle.table.proofs.good_stages.Lts as lts
-use Rattle.table.proofs.some_awaited.Reads as some-awaited-reads
-use Rattle.table.proofs.stages.Reads as stages-reads
 use Rattle.table.proofs.good_stages.Goals as goal
 
 pub stages-requires : goal.stages-requires

@@ -1,7 +1,6 @@
 use mathlib.Core.Path.{refl, sym, ◌∙◌}
 use Rattle.paper.specs.Sizes.{PARTS}
 use Rattle.channel.specs.Channel.{blank}
-use Rattle.table.specs.Table.{holds}
 use Rattle.table.proofs.Every.{some_here, some_on, some_end}
 use Rattle.lists.proofs.Arrays.{length_mapped}
 use borrow.Author.Rules.{rules}
@@ -22,7 +21,8 @@ bounds-table-i c = search rules
 
 pub returns-then-holds : goal.returns-then-holds
 unfolding PARTS
-returns-then-holds c = let l = c.loop-i in
+returns-then-holds c =
+    let l = c.loop-i in
     sym (l.invariant.1 ∙ some_here _ _ l.i blank (omega arith) (sym c.holds.ensures ∙ c.if-holds.true))
 
 pub overflow_add-i : goal.overflow_add-i
@@ -35,10 +35,12 @@ loop-i-smaller c = search rules
 
 pub loop-i-preserved : goal.loop-i-preserved
 unfolding PARTS
-loop-i-preserved c = let l = c.loop-i in
+loop-i-preserved c =
+    let l = c.loop-i in
     (l.invariant.0, l.invariant.1 ∙ some_on _ _ l.i blank (omega arith) (sym c.holds.ensures ∙ c.if-holds.false))
 
 pub returns : goal.returns
 unfolding PARTS
-returns c = let l = c.loop-i in
+returns c =
+    let l = c.loop-i in
     sym (l.invariant.1 ∙ some_end _ _ l.i (omega arith))

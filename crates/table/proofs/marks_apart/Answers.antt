@@ -15,7 +15,8 @@ use Rattle.table.proofs.marks_apart.Goals as goal
 
 pub loop-i-init : goal.loop-i-init
 unfolding PARTS
-loop-i-init c = let long : length c.args.table.records ≡ PARTS = search (rules, length_mapped) in
+loop-i-init c =
+    let long : length c.args.table.records ≡ PARTS = search (rules, length_mapped) in
     (long, search rules, passed_none _ _ _ long, sym (total_end opens c.args.table.records PARTS (rw long (omega arith))), omega arith)
 
 pub offset_bounds-table-i : goal.offset_bounds-table-i
@@ -31,12 +32,14 @@ returns-then-marks-mark c = λ e. absurd (true_not_false (sym e))
 
 pub overflow_add-channels : goal.overflow_add-channels
 unfolding PARTS
-overflow_add-channels c = let l = c.loop-i in
+overflow_add-channels c =
+    let l = c.loop-i in
     let rs = c.args.table.records in
     omega (arith, l.invariant.4, c.opens-channels.ensures, opens_most (get_or rs (l.i - 1) blank))
 
 pub loop-i-preserved-then-record : goal.loop-i-preserved-then-record
-loop-i-preserved-then-record c = let l = c.loop-i in
+loop-i-preserved-then-record c =
+    let l = c.loop-i in
     let inv = l.invariant in
     let rs = c.args.table.records in
     let here = opens_most (get_or rs (l.i - 1) blank) in
@@ -49,7 +52,8 @@ loop-i-preserved-then-record c = let l = c.loop-i in
     )
 
 pub loop-i-preserved : goal.loop-i-preserved
-loop-i-preserved c = let l = c.loop-i in
+loop-i-preserved c =
+    let l = c.loop-i in
     let inv = l.invariant in
     let rs = c.args.table.records in
     let free = opens_none (get_or rs (l.i - 1) blank) c.if-record.false in
@@ -62,7 +66,8 @@ loop-i-preserved c = let l = c.loop-i in
     )
 
 pub returns : goal.returns
-returns c = let l = c.loop-i in
+returns c =
+    let l = c.loop-i in
     let rs = c.args.table.records in
     let none : l.i ≡ 0 = omega arith in
     λ e. (

@@ -1,9 +1,6 @@
 -- `table::opens` meets its contract: its test is the definition's.
 use mathlib.Core.Path.{refl, sym, ◌∙◌}
 use Rattle.table.specs.Totals.{opens}
-use Rattle.table.proofs.opens.Reads as reads
-use Rattle.table.proofs.opens.Lts as lts
-use Rattle.table.proofs.is_open.Reads as is-open-reads
 use Rattle.table.proofs.opens.Goals as goal
 
 pub returns-then-is_open : goal.returns-then-is_open

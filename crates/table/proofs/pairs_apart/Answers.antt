@@ -1,6 +1,5 @@
 use mathlib.Core.Path.{refl, sym, ◌∙◌}
 use Rattle.paper.specs.Sizes.{PARTS}
-use mathlib.Core.Logic.{⊎_elim}
 use Rattle.table.proofs.Twice.{twice_here, twice_on, twice_end}
 use Rattle.lists.proofs.Arrays.{length_mapped}
 use borrow.Author.Rules.{rules}
@@ -26,7 +25,8 @@ overflow_add-i c = search rules
 
 pub returns-then-held_from : goal.returns-then-held_from
 unfolding PARTS
-returns-then-held_from c = let l = c.loop-i in
+returns-then-held_from c =
+    let l = c.loop-i in
     sym (l.invariant.1 ∙ twice_here _ l.i (omega arith) (rw c.if-record.true (sym c.held_from.ensures ∙ c.if-held_from.true)))
 
 pub overflow_add-i-in-loop-i : goal.overflow_add-i-in-loop-i
@@ -39,13 +39,16 @@ loop-i-smaller c = search rules
 
 pub loop-i-preserved : goal.loop-i-preserved
 unfolding PARTS
-loop-i-preserved c = let l = c.loop-i in
-    (l.invariant.0, l.invariant.1 ∙ twice_on _ l.i (omega arith) (elim c.else-record.branch [
-      else-record-via-then-record+else-held_from w ↦ rw w.if-record.true (sym w.held_from.ensures ∙ w.if-held_from.false)
+loop-i-preserved c = let l = c.loop-i in (
+  l.invariant.0,
+  l.invariant.1 ∙ twice_on _ l.i (omega arith) (elim c.else-record.branch [
+    | else-record-via-then-record+else-held_from w ↦ rw w.if-record.true (sym w.held_from.ensures ∙ w.if-held_from.false)
     | else-record-via-else-record w ↦ rw w.if-record.false
-    ]))
+  ]),
+)
 
 pub returns : goal.returns
 unfolding PARTS
-returns c = let l = c.loop-i in
+returns c =
+    let l = c.loop-i in
     sym (l.invariant.1 ∙ twice_end _ l.i (omega arith))

@@ -4,7 +4,7 @@ use Rattle.table.proofs.OneHot.{begin, turn, done}
 use Rattle.lists.proofs.Arrays.{length_mapped}
 use Rattle.paper.specs.Sizes.{PARTS}
 use lib.ListN.{length}
-use mathlib.Core.Logic.{⊎_elim, inl, inr}
+use mathlib.Core.Logic.{inl, inr}
 use mathlib.Core.Path.{◌≡◌, refl, ap, ◌∙◌}
 use Rattle.table.specs.declared.Table.{Table}
 use Rattle.table.specs.Table.{placed, bit_of, put_back}
@@ -45,11 +45,15 @@ loop-i-smaller c = search rules
 
 pub loop-i-preserved : goal.loop-i-preserved
 unfolding PARTS placed
-loop-i-preserved c = let l = c.loop-i in (omega arith, l.invariant.1, λ j e. turn _ j _ l.i l.rest l.next _ (l.invariant.2 j e) 
+loop-i-preserved c = let l = c.loop-i in (
+  omega arith,
+  l.invariant.1,
+  λ j e. turn _ j _ l.i l.rest l.next _ (l.invariant.2 j e)
       (elim c.if-rest-eq1.branch [
-        then-rest-eq1 w ↦ inl (w.if-rest-eq1.true, w.next-is)
-      | else-rest-eq1 w ↦ inr (w.if-rest-eq1.false, w.next-is)
-      ]))
+        | then-rest-eq1 w ↦ inl (w.if-rest-eq1.true, w.next-is)
+        | else-rest-eq1 w ↦ inr (w.if-rest-eq1.false, w.next-is)
+      ]),
+)
 
 pub totals_after-next-requires : goal.totals_after-next-requires
 unfolding PARTS
@@ -57,7 +61,8 @@ totals_after-next-requires c = search rules
 
 pub returns : goal.returns
 unfolding PARTS put_back placed
-returns c = let l = c.loop-i in
+returns c =
+    let l = c.loop-i in
     let bit = c.bit-rest.ensures ∙ ap bit_of c.site.ensures in
     let rows = done _ _ _ l.i l.rest l.next (omega arith) (l.invariant.2 _ bit) in
     ap (λ (t : Table). record { totals = c.totals_after-next.result; ready = t.ready; level = t.level; records = t.records }) rows

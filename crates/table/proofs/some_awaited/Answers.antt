@@ -22,7 +22,8 @@ bounds-table-i c = search rules
 
 pub returns-then-record : goal.returns-then-record
 unfolding PARTS
-returns-then-record c = let l = c.loop-i in
+returns-then-record c =
+    let l = c.loop-i in
     sym (l.invariant.1 ∙ some_here is_awaited _ l.i blank (omega arith) c.if-record.true)
 
 pub overflow_add-i : goal.overflow_add-i
@@ -35,10 +36,12 @@ loop-i-smaller c = search rules
 
 pub loop-i-preserved : goal.loop-i-preserved
 unfolding PARTS
-loop-i-preserved c = let l = c.loop-i in
+loop-i-preserved c =
+    let l = c.loop-i in
     (l.invariant.0, l.invariant.1 ∙ some_on is_awaited _ l.i blank (omega arith) c.if-record.false)
 
 pub returns : goal.returns
 unfolding PARTS
-returns c = let l = c.loop-i in
+returns c =
+    let l = c.loop-i in
     sym (l.invariant.1 ∙ some_end is_awaited _ l.i (omega arith))

@@ -1,6 +1,5 @@
 use mathlib.Core.Path.{◌≡◌, refl, sym, ◌∙◌}
 use mathlib.Core.Bool.{true, false}
-use mathlib.Core.Logic.{⊎_elim}
 use Prim.Native.Nat.{ℕ, ◌+◌, ◌≤◌, ◌<◌}
 use lib.ListN.{get_or}
 use Rattle.paper.specs.Sizes.{PARTS, MESSAGE_MAX}
@@ -17,8 +16,6 @@ use Rattle.table.proofs.Every.{every_not, every_on, every_end}
 use Rattle.table.proofs.Recount.{total_on, total_end, awaits_most, idle_adds, spoiled_adds, joining_adds, not_open_joining_adds, counts_open}
 use borrow.Author.Rules.{rules}
 use native.Mathlib.Omega.{arith}
-use Rattle.table.proofs.stages.Reads as reads
-use Rattle.table.proofs.stages.Lts as lts
 use Rattle.table.proofs.stages.Goals as goal
 use Rattle.table.proofs.stages.Goals.{in-Idle, in-Joining+else-wanted-held+else-wanted-gt-MESSAGE_MAX+then-counts, in-Joining+else-wanted-held+else-wanted-gt-MESSAGE_MAX+else-counts, in-Spoiled}
 
@@ -45,21 +42,24 @@ bounds-table-i c = search rules
 
 pub returns-then-wanted-held : goal.returns-then-wanted-held
 unfolding PARTS
-returns-then-wanted-held c = let l = c.loop-i in
+returns-then-wanted-held c =
+    let l = c.loop-i in
     let r = get_or c.args.table.records l.i blank in
     let bad = over_held r _ _ c.in-Joining.is c.if-wanted-held.true in
     sym (rw (l.invariant.1 ∙ every_not is_staged c.args.table.records l.i blank (omega arith) bad))
 
 pub returns-then-wanted-gt-MESSAGE_MAX : goal.returns-then-wanted-gt-MESSAGE_MAX
 unfolding PARTS MESSAGE_MAX
-returns-then-wanted-gt-MESSAGE_MAX c = let l = c.loop-i in
+returns-then-wanted-gt-MESSAGE_MAX c =
+    let l = c.loop-i in
     let r = get_or c.args.table.records l.i blank in
     let bad = over_long r _ _ c.in-Joining.is c.if-wanted-gt-MESSAGE_MAX.true in
     sym (rw (l.invariant.1 ∙ every_not is_staged c.args.table.records l.i blank (omega arith) bad))
 
 pub overflow_add-awaited : goal.overflow_add-awaited
 unfolding PARTS
-overflow_add-awaited c = let l = c.loop-i in
+overflow_add-awaited c =
+    let l = c.loop-i in
     omega (arith, l.invariant.3, c.if-wanted-gt-MESSAGE_MAX.false)
 
 pub overflow_add-i : goal.overflow_add-i
@@ -72,22 +72,23 @@ loop-i-smaller c = search rules
 
 pub loop-i-preserved : goal.loop-i-preserved
 unfolding PARTS MESSAGE_MAX
-loop-i-preserved c = let l = c.loop-i in
+loop-i-preserved c =
+    let l = c.loop-i in
     let rs = c.args.table.records in
     let r = get_or rs l.i blank in
     let is_it = sym (counts_open rs c.args.marked c.requires l.i) in
     let adds : (good_stage r.stage ≡ true) × (c.match-stage.awaited ≡ l.awaited + awaits r) =
     elim c.match-stage.branch [
-      in-Idle w ↦ let a = idle_adds r w.in-Idle.is in (a.0, omega (arith, a.1, w.awaited-is))
-    | in-Joining+else-wanted-held+else-wanted-gt-MESSAGE_MAX+then-counts w ↦
-      let a = joining_adds r _ _ w.in-Joining.is (omega (arith, w.if-wanted-held.false)) (omega (arith, w.if-wanted-gt-MESSAGE_MAX.false))
-      (is_it ∙ sym w.counts.ensures ∙ w.if-counts.true) in
-      (a.0, omega (arith, a.1, w.awaited-is))
-    | in-Joining+else-wanted-held+else-wanted-gt-MESSAGE_MAX+else-counts w ↦
-      let a = not_open_joining_adds r _ _ w.in-Joining.is (omega (arith, w.if-wanted-held.false)) (omega (arith, w.if-wanted-gt-MESSAGE_MAX.false))
-      (is_it ∙ sym w.counts.ensures ∙ w.if-counts.false) in
-      (a.0, omega (arith, a.1, w.awaited-is))
-    | in-Spoiled w ↦ let a = spoiled_adds r w.in-Spoiled.is in (a.0, omega (arith, a.1, w.awaited-is))
+      | in-Idle w ↦ let a = idle_adds r w.in-Idle.is in (a.0, omega (arith, a.1, w.awaited-is))
+      | in-Joining+else-wanted-held+else-wanted-gt-MESSAGE_MAX+then-counts w ↦
+          let a = joining_adds r _ _ w.in-Joining.is (omega (arith, w.if-wanted-held.false)) (omega (arith, w.if-wanted-gt-MESSAGE_MAX.false))
+          (is_it ∙ sym w.counts.ensures ∙ w.if-counts.true) in
+          (a.0, omega (arith, a.1, w.awaited-is))
+      | in-Joining+else-wanted-held+else-wanted-gt-MESSAGE_MAX+else-counts w ↦
+          let a = not_open_joining_adds r _ _ w.in-Joining.is (omega (arith, w.if-wanted-held.false)) (omega (arith, w.if-wanted-gt-MESSAGE_MAX.false))
+          (is_it ∙ sym w.counts.ensures ∙ w.if-counts.false) in
+          (a.0, omega (arith, a.1, w.awaited-is))
+      | in-Spoiled w ↦ let a = spoiled_adds r w.in-Spoiled.is in (a.0, omega (arith, a.1, w.awaited-is))
     ] in (
       l.invariant.0,
       l.invariant.1 ∙ every_on is_staged rs l.i blank (omega arith) adds.0,
@@ -97,7 +98,8 @@ loop-i-preserved c = let l = c.loop-i in
 
 pub returns : goal.returns
 unfolding PARTS
-returns c = let l = c.loop-i in
+returns c =
+    let l = c.loop-i in
     let rs = c.args.table.records in
     let all = l.invariant.1 ∙ every_end is_staged rs l.i (omega arith) in
     let sum : l.awaited ≡ total awaits rs = omega (arith, l.invariant.2, total_end awaits rs l.i (omega arith)) in

@@ -5,8 +5,6 @@ use lib.ListN.{length, drop}
 use Rattle.paper.specs.Sizes.{PARTS}
 use Rattle.table.specs.Totals.{awaits, total}
 use Rattle.table.specs.Sound.{is_staged, every}
-use Rattle.table.proofs.stages.Reads as reads
-use Rattle.table.proofs.stages.Lts as lts
 use Rattle.table.proofs.stages.Given as goal
 
 abbrev pub invariant-loop-i : goal.invariant-loop-i

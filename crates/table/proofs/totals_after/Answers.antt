@@ -1,10 +1,6 @@
 -- `table::totals_after` meets its contract: change by change.
 use mathlib.Core.Path.{refl}
 use Rattle.table.specs.Table.{totals_after}
-use Rattle.table.proofs.totals_after.Reads as reads
-use Rattle.table.proofs.totals_after.Lts as lts
-use Rattle.table.proofs.blank.Reads as blank-reads
-use Rattle.table.proofs.changed.Reads as changed-reads
 use Rattle.table.proofs.totals_after.Goals as goal
 
 pub returns-in-Stays : goal.returns-in-Stays

@@ -18,19 +18,22 @@ use Rattle.viewing.proofs.entry.Goals as goal
 
 pub returns-then-not-keeps : goal.returns-then-not-keeps
 unfolding entry_of laid
-returns-then-not-keeps c = let off = ap is_kept (sym c.judge.ensures) ∙ sym c.keeps.ensures ∙ c.if-not-keeps.true in
+returns-then-not-keeps c =
+    let off = ap is_kept (sym c.judge.ensures) ∙ sym c.keeps.ensures ∙ c.if-not-keeps.true in
     rw off (record { value = (refl, omega arith); out_after = refl })
 
 pub returns-in_default : goal.returns-in_default
-returns-in_default c = let kept : is_kept (verdict_on c.args.line.now) ≡ true = ap is_kept (sym c.judge.ensures) ∙ sym c.keeps.ensures ∙ c.if-not-keeps.false in
+returns-in_default c =
+    let kept : is_kept (verdict_on c.args.line.now) ≡ true = ap is_kept (sym c.judge.ensures) ∙ sym c.keeps.ensures ∙ c.if-not-keeps.false in
     let a = c.args in
     let line = a.line.now in
     let so = refused_so (name_of line) a.out.now a.at (omega (arith, c.requires)) _ _ c.from_utf8.ensures.value c.from_utf8.ensures.out_after
     _ c.in_default.is (omega (arith, name_long line, c.requires)) in
-    absurd (kept_named line (kept) so.0)  -- TODO record value out_after
+    absurd (kept_named line (kept) so.0)
 
 pub bounds-out-at : goal.bounds-out-at
-bounds-out-at c = let wrote : let a = c.args in
+bounds-out-at c =
+    let wrote : let a = c.args in
     let r = name_of a.line.now in
     let n = c.in-Length.n in
     (r ≡ some (result_of r))
@@ -58,7 +61,8 @@ bounds-out-at c = let wrote : let a = c.args in
 
 pub returns : goal.returns
 unfolding entry_of
-returns c = let kept : is_kept (verdict_on c.args.line.now) ≡ true = ap is_kept (sym c.judge.ensures) ∙ sym c.keeps.ensures ∙ c.if-not-keeps.false in
+returns c =
+    let kept : is_kept (verdict_on c.args.line.now) ≡ true = ap is_kept (sym c.judge.ensures) ∙ sym c.keeps.ensures ∙ c.if-not-keeps.false in
     let wrote : let a = c.args in
     let r = name_of a.line.now in
     let n = c.in-Length.n in
@@ -90,7 +94,8 @@ returns c = let kept : is_kept (verdict_on c.args.line.now) ≡ true = ap is_kep
     rw (kept, so.1.1.1) (record { value = (omega (arith, so.1.0, length-append name (0 ∷ [])), (short).0); out_after = behind })
 
 pub overflow_add-out : goal.overflow_add-out
-overflow_add-out c = let wrote : let a = c.args in
+overflow_add-out c =
+    let wrote : let a = c.args in
     let r = name_of a.line.now in
     let n = c.in-Length.n in
     (r ≡ some (result_of r))
@@ -107,7 +112,8 @@ overflow_add-out c = let wrote : let a = c.args in
     omega (arith, short)
 
 pub overflow_add-result : goal.overflow_add-result
-overflow_add-result c = let wrote : let a = c.args in
+overflow_add-result c =
+    let wrote : let a = c.args in
     let r = name_of a.line.now in
     let n = c.in-Length.n in
     (r ≡ some (result_of r))

@@ -8,12 +8,14 @@ use Rattle.viewing.proofs.gather.Goals as goal
 
 pub returns-then-text-gt-TEXT_MAX : goal.returns-then-text-gt-TEXT_MAX
 unfolding gathered_for gathered_in TEXT_MAX
-returns-then-text-gt-TEXT_MAX c = let text = c.args.text.now in
+returns-then-text-gt-TEXT_MAX c =
+    let text = c.args.text.now in
     rw (lt-ltb TEXT_MAX (length text) c.if-text-gt-TEXT_MAX.true) (record { value = (refl, tt); out_after = refl })
 
 pub returns-then-out-le-TEXT_MAX : goal.returns-then-out-le-TEXT_MAX
 unfolding gathered_for gathered_in TEXT_MAX
-returns-then-out-le-TEXT_MAX c = let a = c.args in
+returns-then-out-le-TEXT_MAX c =
+    let a = c.args in
     rw (le-ltb TEXT_MAX (length a.text.now) c.if-text-gt-TEXT_MAX.false, le-leb (length a.out.now) TEXT_MAX c.if-out-le-TEXT_MAX.true) (record { value = (refl, tt); out_after = refl })
 
 pub returns : goal.returns

@@ -11,7 +11,8 @@ returns-then-line-eq0 c = rw (eq-eqb _ 0 c.if-line-eq0.true)
 
 pub returns-then-first_zero-line : goal.returns-then-first_zero-line
 unfolding verdict_on
-returns-then-first_zero-line c = let line = c.args.line.now in
+returns-then-first_zero-line c =
+    let line = c.args.line.now in
     rw (ne_eqb (length line) 0 c.if-line-eq0.false, ← c.first_zero.ensures, lt-ltb c.first_zero.result (length line) c.if-first_zero-line.true)
 
 pub returns-then-not-has_name : goal.returns-then-not-has_name

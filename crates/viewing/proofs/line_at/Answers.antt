@@ -14,7 +14,8 @@ use Rattle.viewing.proofs.line_at.Goals as goal
 
 pub returns : goal.returns
 unfolding line_at first_line
-returns c = let found : let text = c.args.text.now in
+returns c =
+    let found : let text = c.args.text.now in
     let from = c.lesser-from.result in
     (c.first_of.result ≡ place (is_byte LF) (drop c.args.at text))
     × ((drop from text ≡ drop c.args.at text) × (from + c.first_of.result ≤ length text)) = let text = c.args.text.now in
@@ -32,7 +33,8 @@ returns c = let found : let text = c.args.text.now in
     rw (c.judge.ensures ∙ ap verdict_on line, so.0, c.lesser-from.ensures)
 
 pub overflow_add-end : goal.overflow_add-end
-overflow_add-end c = let found : let text = c.args.text.now in
+overflow_add-end c =
+    let found : let text = c.args.text.now in
     let from = c.lesser-from.result in
     (c.first_of.result ≡ place (is_byte LF) (drop c.args.at text))
     × ((drop from text ≡ drop c.args.at text) × (from + c.first_of.result ≤ length text)) = let text = c.args.text.now in
@@ -44,7 +46,8 @@ overflow_add-end c = let found : let text = c.args.text.now in
     omega (arith, (found).1.1)
 
 pub slice_bounds-judge-end : goal.slice_bounds-judge-end
-slice_bounds-judge-end c = let found : let text = c.args.text.now in
+slice_bounds-judge-end c =
+    let found : let text = c.args.text.now in
     let from = c.lesser-from.result in
     (c.first_of.result ≡ place (is_byte LF) (drop c.args.at text))
     × ((drop from text ≡ drop c.args.at text) × (from + c.first_of.result ≤ length text)) = let text = c.args.text.now in
@@ -56,7 +59,8 @@ slice_bounds-judge-end c = let found : let text = c.args.text.now in
     (found).1.1
 
 pub overflow_add-result : goal.overflow_add-result
-overflow_add-result c = let found : let text = c.args.text.now in
+overflow_add-result c =
+    let found : let text = c.args.text.now in
     let from = c.lesser-from.result in
     (c.first_of.result ≡ place (is_byte LF) (drop c.args.at text))
     × ((drop from text ≡ drop c.args.at text) × (from + c.first_of.result ≤ length text)) = let text = c.args.text.now in

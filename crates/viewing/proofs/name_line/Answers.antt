@@ -17,7 +17,8 @@ use Rattle.viewing.proofs.name_line.Goals as goal
 
 pub returns-in_default : goal.returns-in_default
 unfolding name_line
-returns-in_default c = let room : let a = c.args in
+returns-in_default c =
+    let room : let a = c.args in
     length (result_of (utf8_of a.name.now)) ≤ length a.out.now - a.at = omega (arith, result_long c.args.name.now, c.requires) in
     let a = c.args in
     let so = refused_so (utf8_of a.name.now) a.out.now a.at (omega (arith, c.requires)) _ _ c.to_utf8.ensures.value c.to_utf8.ensures.out_after
@@ -26,7 +27,8 @@ returns-in_default c = let room : let a = c.args in
     rw so.0 (record { value = (said.value.0, omega (arith, said.value.0, refused_long, c.requires)); out_after = said.out_after })
 
 pub bounds-out-at : goal.bounds-out-at
-bounds-out-at c = let wrote : let a = c.args in
+bounds-out-at c =
+    let wrote : let a = c.args in
     let r = utf8_of a.name.now in
     let n = c.in-Length.n in
     (r ≡ some (result_of r))
@@ -54,7 +56,8 @@ bounds-out-at c = let wrote : let a = c.args in
 
 pub returns : goal.returns
 unfolding name_line
-returns c = let wrote : let a = c.args in
+returns c =
+    let wrote : let a = c.args in
     let r = utf8_of a.name.now in
     let n = c.in-Length.n in
     (r ≡ some (result_of r))
@@ -85,7 +88,8 @@ returns c = let wrote : let a = c.args in
     rw (so.0, so.1.1.1) (record { value = (omega (arith, so.1.0, length-append text (LF ∷ [])), (short).0); out_after = behind })
 
 pub overflow_add-out : goal.overflow_add-out
-overflow_add-out c = let wrote : let a = c.args in
+overflow_add-out c =
+    let wrote : let a = c.args in
     let r = utf8_of a.name.now in
     let n = c.in-Length.n in
     (r ≡ some (result_of r))
@@ -102,7 +106,8 @@ overflow_add-out c = let wrote : let a = c.args in
     omega (arith, short)
 
 pub overflow_add-result : goal.overflow_add-result
-overflow_add-result c = let wrote : let a = c.args in
+overflow_add-result c =
+    let wrote : let a = c.args in
     let r = utf8_of a.name.now in
     let n = c.in-Length.n in
     (r ≡ some (result_of r))

@@ -19,5 +19,6 @@ returns-in-HasZero c = rw c.in-HasZero.is (record { value = (c.text-in-HasZero.e
 
 pub returns-in-Unnamed : goal.returns-in-Unnamed
 unfolding reason_for
-returns-in-Unnamed c = let did = rw c.refusal_number.ensures at c.refused.ensures in
+returns-in-Unnamed c =
+    let did = rw c.refusal_number.ensures at c.refused.ensures in
     rw c.in-Unnamed.is (record { value = did.value; out_after = did.out_after })

@@ -16,7 +16,8 @@ returns-then-keeps c = rw (sym c.keeps.ensures ∙ c.if-keeps.true) (record { va
 
 pub returns : goal.returns
 unfolding left_out_line
-returns c = let a = c.args in
+returns c =
+    let a = c.args in
     let out = a.out.now in
     let f2 = field a.number SPACE in
     let l2 = VIEWER_LINE ++ f2 in

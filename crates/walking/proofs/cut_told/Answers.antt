@@ -16,10 +16,12 @@ returns-in-Messages c = rw c.in-Messages.is (record { value = (refl, omega arith
 
 pub returns-in-Moves : goal.returns-in-Moves
 unfolding cut_told
-returns-in-Moves c = let did = c.cut_line-in-Moves.ensures in
+returns-in-Moves c =
+    let did = c.cut_line-in-Moves.ensures in
     rw c.in-Moves.is (record { value = did.value; out_after = did.out_after })
 
 pub returns-in-Totals : goal.returns-in-Totals
 unfolding cut_told
-returns-in-Totals c = let did = c.cut_line-in-Totals.ensures in
+returns-in-Totals c =
+    let did = c.cut_line-in-Totals.ensures in
     rw c.in-Totals.is (record { value = did.value; out_after = did.out_after })

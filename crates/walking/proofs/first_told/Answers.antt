@@ -6,7 +6,8 @@ use Rattle.walking.proofs.first_told.Goals as goal
 
 pub returns-in-Lines : goal.returns-in-Lines
 unfolding first_told
-returns-in-Lines c = let did = c.header.ensures in
+returns-in-Lines c =
+    let did = c.header.ensures in
     rw c.in-Lines.is (record { value = did.value; out_after = did.out_after })
 
 pub returns-in-Messages : goal.returns-in-Messages
@@ -15,10 +16,12 @@ returns-in-Messages c = rw c.in-Messages.is (record { value = (refl, omega arith
 
 pub returns-in-Moves : goal.returns-in-Moves
 unfolding first_told
-returns-in-Moves c = let did = c.header-in-Moves.ensures in
+returns-in-Moves c =
+    let did = c.header-in-Moves.ensures in
     rw c.in-Moves.is (record { value = did.value; out_after = did.out_after })
 
 pub returns-in-Totals : goal.returns-in-Totals
 unfolding first_told
-returns-in-Totals c = let did = c.totals_header.ensures in
+returns-in-Totals c =
+    let did = c.totals_header.ensures in
     rw c.in-Totals.is (record { value = did.value; out_after = did.out_after })

@@ -11,11 +11,13 @@ returns-then-not-has_closes c = rw (sym c.has_closes.ensures ∙ c.if-not-has_cl
 
 pub returns-then-bytes-eq0 : goal.returns-then-bytes-eq0
 unfolding is_close
-returns-then-bytes-eq0 c = let a = c.args in
+returns-then-bytes-eq0 c =
+    let a = c.args in
     rw (none_close a.bytes.now c.if-bytes-eq0.true) (sym (and_false (has_closes a.told)))
 
 pub returns : goal.returns
 unfolding is_close
-returns c = let a = c.args in
+returns c =
+    let a = c.args in
     let closes = sym c.has_closes.ensures ∙ c.if-not-has_closes.false in
     rw closes (ap (λ (b : ℕ). eqb b 0) (first_byte_law a.bytes.now c.if-bytes-eq0.false))

@@ -8,7 +8,8 @@ use Rattle.walking.proofs.onward.Goals as goal
 
 pub returns : goal.returns
 unfolding program
-returns c = let a = c.args in
+returns c =
+    let a = c.args in
     let input = a.input.now in
     let taken = c.walk-walked.result.taken in
     let due = c.due_for-due.ensures ∙ ap due_for (c.extent_for.ensures ∙ ap (extent_for a.job) (to_end input taken)) in

@@ -1,7 +1,5 @@
 -- `walking::start_for` meets its contract: each arm is a case of the definition.
 use Rattle.walking.specs.Walking.{started_for}
-use Rattle.linking.proofs.start.Reads as start-reads'
-use Rattle.shore.proofs.start.Reads as start-reads''
 use Rattle.walking.proofs.start_for.Goals as goal
 
 pub returns-in-Client : goal.returns-in-Client

@@ -6,7 +6,8 @@ use Rattle.walking.proofs.step_desk.Goals as goal
 
 pub returns : goal.returns
 unfolding program after_record after_call text_of room_for desk_called zeros PDU_MAX
-returns c = let got = c.hosted-given.ensures in
+returns c =
+    let got = c.hosted-given.ensures in
     let text = rw got.value at c.desk_line-laid.ensures in
     λ list.
     record {

@@ -14,7 +14,8 @@ returns-then-kept c = rw c.if-kept.true
 
 pub returns : goal.returns
 unfolding program after_record text_of room_for after_link link_text comes_of STEP_MAX CALL_MAX MESSAGE_LINE_MAX MESSAGE_MAX
-returns c = let did = c.step-stepped.ensures in
+returns c =
+    let did = c.step-stepped.ensures in
     rw c.if-kept.false
     (record {
       kept = rw (did.0, did.1.ends, c.wrapping_add_u64.ensures.value);

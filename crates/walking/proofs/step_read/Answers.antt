@@ -6,7 +6,8 @@ use Rattle.walking.proofs.step_read.Goals as goal
 
 pub returns : goal.returns
 unfolding program after_record text_of room_for
-returns c = let pdu = pdu_lent c.args.bytes.now _ c.lesser-from.ensures in
+returns c =
+    let pdu = pdu_lent c.args.bytes.now _ c.lesser-from.ensures in
     let read = rw pdu at c.read_strict.ensures in
     let line = rw (c.verdict-refusal.ensures, read) at c.reading_line-laid.ensures in
     λ list store.

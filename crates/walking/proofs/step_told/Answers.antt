@@ -5,7 +5,8 @@ use Rattle.walking.proofs.step_told.Goals as goal
 
 pub returns : goal.returns
 unfolding program after_record after_step text_of room_for
-returns c = let a = c.args in
+returns c =
+    let a = c.args in
     let got = rw (pdu_lent a.bytes.now _ c.lesser-from.ensures) at c.answered-received.ensures in
     let text = rw (got.value, got.store_after) at c.text_for-laid.ensures in
     record {

@@ -8,7 +8,8 @@ use Rattle.walking.proofs.Walks.{begins, turn, ends}
 use Rattle.walking.proofs.walk.Goals as goal
 
 pub loop-out-init : goal.loop-out-init
-loop-out-init c = let a = c.args in
+loop-out-init c =
+    let a = c.args in
     (refl, begins (program a.job a.list.now) a.input.now a.out.now (walk_of a.kept a.store.now))
 
 pub overflow_sub-out : goal.overflow_sub-out
@@ -24,7 +25,8 @@ pub slice_bounds-extent_for-end : goal.slice_bounds-extent_for-end
 slice_bounds-extent_for-end c = omega (arith, c.loop-out.invariant.1.at_in)
 
 pub overflow_add-end : goal.overflow_add-end
-overflow_add-end c = let in_front : let n = c.extent_for-n.result in
+overflow_add-end c =
+    let in_front : let n = c.extent_for-n.result in
     let a = c.args in
     let input = a.input.now in
     (n ≡ extent_for a.job (drop c.loop-out.at input)) × ((0 < n) × (c.loop-out.at + n ≤ length input)) = let at = c.loop-out.at in
@@ -37,7 +39,8 @@ overflow_add-end c = let in_front : let n = c.extent_for-n.result in
     omega (arith, in_front)
 
 pub slice_bounds-step-count : goal.slice_bounds-step-count
-slice_bounds-step-count c = let in_front : let n = c.extent_for-n.result in
+slice_bounds-step-count c =
+    let in_front : let n = c.extent_for-n.result in
     let a = c.args in
     let input = a.input.now in
     (n ≡ extent_for a.job (drop c.loop-out.at input)) × ((0 < n) × (c.loop-out.at + n ≤ length input)) = let at = c.loop-out.at in
@@ -50,7 +53,8 @@ slice_bounds-step-count c = let in_front : let n = c.extent_for-n.result in
     omega (arith, in_front)
 
 pub slice_bounds-step-start : goal.slice_bounds-step-start
-slice_bounds-step-start c = let in_front : let n = c.extent_for-n.result in
+slice_bounds-step-start c =
+    let in_front : let n = c.extent_for-n.result in
     let a = c.args in
     let input = a.input.now in
     (n ≡ extent_for a.job (drop c.loop-out.at input)) × ((0 < n) × (c.loop-out.at + n ≤ length input)) = let at = c.loop-out.at in
@@ -63,7 +67,8 @@ slice_bounds-step-start c = let in_front : let n = c.extent_for-n.result in
     omega (arith, in_front)
 
 pub slice_bounds-step-end : goal.slice_bounds-step-end
-slice_bounds-step-end c = let in_front : let n = c.extent_for-n.result in
+slice_bounds-step-end c =
+    let in_front : let n = c.extent_for-n.result in
     let a = c.args in
     let input = a.input.now in
     (n ≡ extent_for a.job (drop c.loop-out.at input)) × ((0 < n) × (c.loop-out.at + n ≤ length input)) = let at = c.loop-out.at in
@@ -80,12 +85,14 @@ slice_bounds-step-count-in-loop-out c = omega (arith, c.loop-out.invariant.1.use
 
 pub overflow_add-used : goal.overflow_add-used
 unfolding program
-overflow_add-used c = let l = c.loop-out in
+overflow_add-used c =
+    let l = c.loop-out in
     let room = c.room_for-room.ensures in
     omega (arith, c.step-stepped.ensures.fits, room, l.invariant.1.used_in_law, l.invariant.1.same_room, c.loop-out-test.true, c.well_formed.1.1.1.1.1.0.0)
 
 pub loop-out-smaller : goal.loop-out-smaller
-loop-out-smaller c = let in_front : let n = c.extent_for-n.result in
+loop-out-smaller c =
+    let in_front : let n = c.extent_for-n.result in
     let a = c.args in
     let input = a.input.now in
     (n ≡ extent_for a.job (drop c.loop-out.at input)) × ((0 < n) × (c.loop-out.at + n ≤ length input)) = let at = c.loop-out.at in
@@ -99,7 +106,8 @@ loop-out-smaller c = let in_front : let n = c.extent_for-n.result in
 
 pub loop-out-preserved : goal.loop-out-preserved
 unfolding program front_of
-loop-out-preserved c = let in_front : let n = c.extent_for-n.result in
+loop-out-preserved c =
+    let in_front : let n = c.extent_for-n.result in
     let a = c.args in
     let input = a.input.now in
     (n ≡ extent_for a.job (drop c.loop-out.at input)) × ((0 < n) × (c.loop-out.at + n ≤ length input)) = let at = c.loop-out.at in
@@ -122,13 +130,15 @@ loop-out-preserved c = let in_front : let n = c.extent_for-n.result in
 
 pub returns-after-loop-out : goal.returns-after-loop-out
 unfolding program
-returns-after-loop-out c = let l = c.loop-out in
+returns-after-loop-out c =
+    let l = c.loop-out in
     let full = rw c.room_for-room.ensures at c.loop-out-test.false in
     record { walks = ends _ _ _ l.store l.out l.next l.at l.used l.invariant.1 (no_room _ _ _ _ (omega (arith, full, l.invariant.1.same_room))); within = (l.invariant.1.at_in, omega (arith, l.invariant.1.used_in_law, l.invariant.1.same_room)) }
 
 pub returns-then-n-eq0 : goal.returns-then-n-eq0
 unfolding program
-returns-then-n-eq0 c = let l = c.loop-out in
+returns-then-n-eq0 c =
+    let l = c.loop-out in
     let a = c.args in
     let input = a.input.now in
     let whole = c.extent_for-n.ensures ∙ ap (extent_for a.job) (to_end input l.at) in

@@ -19,7 +19,8 @@ pub overflow_add-length-3 : goal.overflow_add-length-3
 overflow_add-length-3 c = omega (arith, c.narrow.ensures, narrowest_le c.args.number)
 
 pub returns-in-Length : goal.returns-in-Length
-returns-in-Length c = let answer : c.judge-answer.result ≡ written (bad_request c.args.class c.args.name.now)
+returns-in-Length c =
+    let answer : c.judge-answer.result ≡ written (bad_request c.args.class c.args.name.now)
     (create_request_bytes c.args.number c.args.class c.args.name.now) c.args.out.now = answered _ _ c.judge-answer.ensures c.bad_request.ensures
     (omega (
       arith,
@@ -29,7 +30,8 @@ returns-in-Length c = let answer : c.judge-answer.result ≡ written (bad_reques
     record { value = answer; out_after = laid_so _ _ c.in-Length.is c.create_request.ensures.out_after }
 
 pub returns-in_default : goal.returns-in_default
-returns-in_default c = let answer : c.judge-answer.result ≡ written (bad_request c.args.class c.args.name.now)
+returns-in_default c =
+    let answer : c.judge-answer.result ≡ written (bad_request c.args.class c.args.name.now)
     (create_request_bytes c.args.number c.args.class c.args.name.now) c.args.out.now = answered _ _ c.judge-answer.ensures c.bad_request.ensures
     (omega (
       arith,

@@ -21,7 +21,8 @@ pub overflow_add-length-2 : goal.overflow_add-length-2
 overflow_add-length-2 c = omega (arith, c.narrow.ensures, narrowest_le c.args.number)
 
 pub returns-in-Length : goal.returns-in-Length
-returns-in-Length c = let answer : c.judge-answer.result ≡ written false
+returns-in-Length c =
+    let answer : c.judge-answer.result ≡ written false
     (create_response_bytes c.args.number c.args.status) c.args.out.now = answered _ _ c.judge-answer.ensures refl
     (omega (
       arith,
@@ -34,7 +35,8 @@ returns-in-Length c = let answer : c.judge-answer.result ≡ written false
     record { value = answer; out_after = laid_so _ _ c.in-Length.is (c.create_response.ensures.out_after ∙ same) }
 
 pub returns-in_default : goal.returns-in_default
-returns-in_default c = let answer : c.judge-answer.result ≡ written false
+returns-in_default c =
+    let answer : c.judge-answer.result ≡ written false
     (create_response_bytes c.args.number c.args.status) c.args.out.now = answered _ _ c.judge-answer.ensures refl
     (omega (
       arith,

@@ -15,17 +15,20 @@ pub overflow_add-long : goal.overflow_add-long
 overflow_add-long c = omega (arith, c.narrow.ensures, narrowest_le c.args.number)
 
 pub overflow_add-long-2 : goal.overflow_add-long-2
-overflow_add-long-2 c = let widths : (c.narrow.result ≤ 4) × (c.narrow-2.result ≤ 4) = let a = c.args in
+overflow_add-long-2 c =
+    let widths : (c.narrow.result ≤ 4) × (c.narrow-2.result ≤ 4) = let a = c.args in
     (rw c.narrow.ensures (narrowest_le a.number), rw c.narrow-2.ensures (narrowest_le a.length)) in
     omega (arith, widths)
 
 pub overflow_add-long-3 : goal.overflow_add-long-3
-overflow_add-long-3 c = let widths : (c.narrow.result ≤ 4) × (c.narrow-2.result ≤ 4) = let a = c.args in
+overflow_add-long-3 c =
+    let widths : (c.narrow.result ≤ 4) × (c.narrow-2.result ≤ 4) = let a = c.args in
     (rw c.narrow.ensures (narrowest_le a.number), rw c.narrow-2.ensures (narrowest_le a.length)) in
     omega (arith, widths)
 
 pub returns-in-Length : goal.returns-in-Length
-returns-in-Length c = let answer : c.judge-answer.result ≡ written false
+returns-in-Length c =
+    let answer : c.judge-answer.result ≡ written false
     (data_first_bytes c.args.number c.args.length c.args.block.now) c.args.out.now = answered _ _ c.judge-answer.ensures refl
     (omega (
       arith,
@@ -36,7 +39,8 @@ returns-in-Length c = let answer : c.judge-answer.result ≡ written false
     record { value = answer; out_after = laid_so _ _ c.in-Length.is c.data_first.ensures.out_after }
 
 pub returns-in_default : goal.returns-in_default
-returns-in_default c = let answer : c.judge-answer.result ≡ written false
+returns-in_default c =
+    let answer : c.judge-answer.result ≡ written false
     (data_first_bytes c.args.number c.args.length c.args.block.now) c.args.out.now = answered _ _ c.judge-answer.ensures refl
     (omega (
       arith,
