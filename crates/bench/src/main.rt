@@ -23,7 +23,7 @@ const FILE_MAX: usize = 2097152;
 const ROUNDS_END: u64 = 1000000000;
 
 // How many calls got each answer word, and the messages that channels counted which were open at the end of a round.
-#[derive(Drop)]
+#[derive(Clone, Copy)]
 struct Tally {
     ready: u64,
     opened: u64,
