@@ -39,7 +39,7 @@ leaves w = state_of w.result.table w.store
 unfoldable pub after : State → Call → State
 after st c = leaves (gives st c.asked c.reply)
 
--- "A handed_up_law message of n bytes is the first n bytes of that part."
+-- "A handed-up message of n bytes is the first n bytes of that part."
 unfoldable pub first_of : View → ℕ → List (List ℕ)
 first_of Shut len = []
 first_of (Open r part) len = take len part ∷ []

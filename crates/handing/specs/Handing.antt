@@ -7,7 +7,7 @@ use Rattle.shore.specs.declared.Said.{Said}
 use Rattle.shore.specs.declared.Said.TheVariants as shore
 use Rattle.lines.specs.Lines.{message_line_of}
 
--- "A handed_up_law message of n bytes is the first n bytes of that part.": of the part at the place that stands beside the
+-- "A handed-up message of n bytes is the first n bytes of that part.": of the part at the place that stands beside the
 -- answer
 unfoldable pub handed_up : List ℕ → ℕ → ℕ → List ℕ
 handed_up store at n = take n (part store at)

@@ -66,7 +66,7 @@ gives st (closes n) buffer =
 unfoldable pub after : Standing → Call → Standing
 after st c = standing (gives st c.asked c.buffer).shore (gives st c.asked c.buffer).store
 
--- "A handed_up_law message of n bytes is the first n bytes of that part."
+-- "A handed-up message of n bytes is the first n bytes of that part."
 unfoldable pub handed_up : Standing → Said → List (List ℕ)
 handed_up st (Asked version) = []
 handed_up st (Ready level) = []

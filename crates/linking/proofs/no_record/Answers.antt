@@ -1,4 +1,4 @@
--- `linking::no_record_law` meets its contract: nothing but a line.
+-- `linking::no_record` meets its contract: nothing but a line.
 use mathlib.Core.Path.{refl}
 use Rattle.paper.specs.Sizes.{MESSAGE_MAX}
 use Rattle.lines.specs.Lines.{MESSAGE_LINE_MAX}
