@@ -1,12 +1,10 @@
-use mathlib.Core.Path.{◌≡◌, refl, sym, ◌∙◌}
-use mathlib.Core.Bool.{true}
-use Prim.Native.Nat.{ℕ, ◌+◌, ◌-◌, ◌/◌, ◌%◌}
+use mathlib.Core.Path.{refl, sym, ◌∙◌}
+use Prim.Native.Nat.{◌-◌, ◌/◌, ◌%◌}
 use borrow.Author.Tests.{eqb-true, leb-true}
-use lib.ListN.{length, set, length-set}
+use lib.ListN.{length-set}
 use Rattle.paper.specs.Sizes.{PARTS, MESSAGE_MAX}
-use Rattle.table.proofs.Marks.{MARKS}
 use Rattle.saved.specs.Saved.{STATE, ROW, CHANNELS, AWAITED}
-use Rattle.saved.proofs.Passing.{Adds, adds_awaited, adds_open, adds_joining, Sofar, sofar_none, sofar_free, sofar_taken, sofar_all}
+use Rattle.saved.proofs.Passing.{adds_awaited, adds_open, adds_joining, sofar_none, sofar_free, sofar_taken, sofar_all}
 use borrow.Author.Rules.{rules}
 use native.Mathlib.Omega.{arith}
 use Rattle.saved.proofs.plain.Goals as goal
@@ -51,73 +49,43 @@ word-requires-then-channels-word c = search rules
 pub loop-i-preserved-then-rest-ge-MARK : goal.loop-i-preserved-then-rest-ge-MARK
 unfolding ROW
 loop-i-preserved-then-rest-ge-MARK c =
-    let turn : (more wait sum still : ℕ)
-    → (let a = c.args in
     let l = c.loop-i in
-    Adds a.ready a.asks c.word-rest.result more wait
-    → sum ≡ l.channels + more → still ≡ l.awaited + wait
-    → (length (set l.marks (c.word.result % MARKS) true) ≡ MARKS)
-    × Sofar a.ready a.asks a.state.now (set l.marks (c.word.result % MARKS) true) sum still (l.i - 1)) = λ more wait sum still adds e f. let a = c.args in
-    let l = c.loop-i in
-    let first = c.word-rest in
-    let second = c.word in
-    let next =
-    sofar_taken a.ready a.asks a.state.now l.marks l.channels l.awaited l.i (omega arith) l.invariant.1
-    first.result second.result more wait sum still first.ensures second.ensures l.invariant.0 (omega arith) c.if-marks-mark.false adds e f in
-    (simp length-set l.invariant.0, next) in
     let a = c.args in
     let rest = c.word-rest.result in
-    let ready = c.if-not-ready.false in
-    turn 0 0 _ _
-    (adds_awaited a.ready a.asks rest ready c.if-asks.true (omega arith) (omega (arith, leb-true)) (omega arith))
-    (omega arith) (omega arith)
+    let ready = c.if-not-ready.false in (
+      simp length-set l.invariant.0,
+      sofar_taken a.ready a.asks a.state.now l.marks l.channels l.awaited l.i (omega arith) l.invariant.1 rest c.word.result 0 0 _ _
+          c.word-rest.ensures c.word.ensures l.invariant.0 (omega arith) c.if-marks-mark.false
+          (adds_awaited a.ready a.asks rest ready c.if-asks.true (omega arith) (omega (arith, leb-true)) (omega arith)) (omega arith) (omega arith),
+    )
 
 -- an open channel's with a message
 pub loop-i-preserved-then-rest-ge16 : goal.loop-i-preserved-then-rest-ge16
 unfolding MESSAGE_MAX ROW
 loop-i-preserved-then-rest-ge16 c =
-    let turn : (more wait sum still : ℕ)
-    → (let a = c.args in
     let l = c.loop-i in
-    Adds a.ready a.asks c.word-rest.result more wait
-    → sum ≡ l.channels + more → still ≡ l.awaited + wait
-    → (length (set l.marks (c.word.result % MARKS) true) ≡ MARKS)
-    × Sofar a.ready a.asks a.state.now (set l.marks (c.word.result % MARKS) true) sum still (l.i - 1)) = λ more wait sum still adds e f. let a = c.args in
-    let l = c.loop-i in
-    let first = c.word-rest in
-    let second = c.word in
-    let next =
-    sofar_taken a.ready a.asks a.state.now l.marks l.channels l.awaited l.i (omega arith) l.invariant.1
-    first.result second.result more wait sum still first.ensures second.ensures l.invariant.0 (omega arith) c.if-marks-mark.false adds e f in
-    (simp length-set l.invariant.0, next) in
     let a = c.args in
     let rest = c.word-rest.result in
-    let ready = c.if-not-ready.false in
-    turn 1 (rest / 32768 - rest / 8 % 4096) _ _
-    (adds_joining a.ready a.asks rest ready (omega arith) (omega arith) (omega arith)) (omega arith) (omega arith)
+    let ready = c.if-not-ready.false in (
+      simp length-set l.invariant.0,
+      sofar_taken a.ready a.asks a.state.now l.marks l.channels l.awaited l.i (omega arith) l.invariant.1 rest c.word.result 1 (rest / 32768 - rest / 8 % 4096) _ _
+          c.word-rest.ensures c.word.ensures l.invariant.0 (omega arith) c.if-marks-mark.false
+          (adds_joining a.ready a.asks rest ready (omega arith) (omega arith) (omega arith)) (omega arith) (omega arith),
+    )
 
 -- and with none
 pub loop-i-preserved-else-rest-ge16 : goal.loop-i-preserved-else-rest-ge16
 unfolding ROW
 loop-i-preserved-else-rest-ge16 c =
-    let turn : (more wait sum still : ℕ)
-    → (let a = c.args in
     let l = c.loop-i in
-    Adds a.ready a.asks c.word-rest.result more wait
-    → sum ≡ l.channels + more → still ≡ l.awaited + wait
-    → (length (set l.marks (c.word.result % MARKS) true) ≡ MARKS)
-    × Sofar a.ready a.asks a.state.now (set l.marks (c.word.result % MARKS) true) sum still (l.i - 1)) = λ more wait sum still adds e f. let a = c.args in
-    let l = c.loop-i in
-    let first = c.word-rest in
-    let second = c.word in
-    let next =
-    sofar_taken a.ready a.asks a.state.now l.marks l.channels l.awaited l.i (omega arith) l.invariant.1
-    first.result second.result more wait sum still first.ensures second.ensures l.invariant.0 (omega arith) c.if-marks-mark.false adds e f in
-    (simp length-set l.invariant.0, next) in
     let a = c.args in
     let rest = c.word-rest.result in
-    let ready = c.if-not-ready.false in
-    turn 1 0 _ _ (adds_open a.ready a.asks rest ready (omega arith) (omega arith)) (omega arith) (omega arith)
+    let ready = c.if-not-ready.false in (
+      simp length-set l.invariant.0,
+      sofar_taken a.ready a.asks a.state.now l.marks l.channels l.awaited l.i (omega arith) l.invariant.1 rest c.word.result 1 0 _ _
+          c.word-rest.ensures c.word.ensures l.invariant.0 (omega arith) c.if-marks-mark.false
+          (adds_open a.ready a.asks rest ready (omega arith) (omega arith)) (omega arith) (omega arith),
+    )
 
 -- a free record's
 pub loop-i-preserved : goal.loop-i-preserved
