@@ -1,6 +1,7 @@
 -- Why the PDU at a place got its answer: a 13 has the note of its channel's record, which is the one event; any other refusal has the
 -- first rule that held.
 -- Assumes nothing.
+use Rattle.std.specs.Prelude.{Option, Some}
 use mathlib.Core.Path.{◌≡◌, refl, sym, ap, ◌∙◌}
 use mathlib.Core.Logic.{◌≢◌}
 use mathlib.Core.Bool.{true, false}
@@ -15,8 +16,6 @@ use Rattle.paper.specs.declared.Refusal.{Refusal}
 use Rattle.paper.specs.declared.Refusal.TheVariants.{IsSpoiled}
 use Rattle.lists.specs.Bytes.{zeros}
 use Rattle.reading.specs.Reading.{read_pdu}
-use Rattle.channel.specs.declared.Concern.{Concern}
-use Rattle.channel.specs.declared.Concern.TheVariants.{Channel}
 use Rattle.channel.specs.declared.Answer.TheVariants.{Refused}
 use Rattle.channel.specs.Answers.{concern_of}
 use Rattle.table.specs.declared.Table.{Table}
@@ -127,7 +126,7 @@ module _ (list : List ℕ) (pdus : List (List ℕ)) (i : ℕ) where
   -- ---- any refusal but 13
 
   pub names_the_rule :
-      (why : Refusal) (concern : Concern) → answer_at list pdus i ≡ Refused why concern → why ≢ IsSpoiled → IsTheFirstRule list pdus i why cause
+      (why : Refusal) (concern : Option ℕ) → answer_at list pdus i ≡ Refused why concern → why ≢ IsSpoiled → IsTheFirstRule list pdus i why cause
   unfolding cause_of answer_at
   names_the_rule why concern e d =
       let v = verdict_is (answer_at list pdus i) why concern e in
@@ -150,15 +149,15 @@ module _ (list : List ℕ) (pdus : List (List ℕ)) (i : ℕ) where
   table_stays (Of n a) = rw (thirteen_spoils_none a) refl
 
   -- so the place that comes with it is that of the channel's record
-  place_is : (n : ℕ) → answer_at list pdus i ≡ Refused IsSpoiled (Channel n) → (heard_in list (before list pdus i) pdu).result.place ≡ number_place n table
+  place_is : (n : ℕ) → answer_at list pdus i ≡ Refused IsSpoiled (Some n) → (heard_in list (before list pdus i) pdu).result.place ≡ number_place n table
   unfolding answer_at place_for concern_of
   place_is n e =
       let st = before list pdus i in
-      let left = (receive_refused table st.store list pdu (zeros REPLY_MIN) IsSpoiled (Channel n) (calm list pdus i).sane.rows e).left in
+      let left = (receive_refused table st.store list pdu (zeros REPLY_MIN) IsSpoiled (Some n) (calm list pdus i).sane.rows e).left in
       place_of (zeros REPLY_MIN) _ (heard_step list st (calm list pdus i).sane pdu)
       ∙ rw (e, left, table_stays (event_of list pdu (read_pdu true pdu))) refl
 
-  pub names_the_event : (concern : Concern) → answer_at list pdus i ≡ Refused IsSpoiled concern → IsTheEvent list pdus i concern cause
+  pub names_the_event : (concern : Option ℕ) → answer_at list pdus i ≡ Refused IsSpoiled concern → IsTheEvent list pdus i concern cause
   unfolding cause_of answer_at cause_by
   names_the_event concern e =
       let dead = step_dead (before list pdus i) (calm list pdus i).sane (event_at list pdus i) (mild list pdus i) (stray_at list pdus i) concern (sym (answer_is list pdus i) ∙ e) in

@@ -1,5 +1,5 @@
 -- Why is this channel dead? What is said of a place of the walker's input, beside the run that the input is.
-use Rattle.std.specs.Prelude.{ℕ, zero, suc, ◌/◌, ◌<◌, ◌≤◌, ◌≡◌, ◌≢◌, Bool, true, false, ◌||◌, List, [], ◌++◌, length, take, get_or}
+use Rattle.std.specs.Prelude.{ℕ, zero, suc, ◌/◌, ◌<◌, ◌≤◌, ◌≡◌, ◌≢◌, Bool, true, false, ◌||◌, List, [], ◌++◌, length, take, get_or, Option, Some}
 use Rattle.paper.specs.Sizes.{STORE, REPLY_MIN}
 use Rattle.paper.specs.Commands.{CAPABILITIES}
 use Rattle.paper.specs.Rows.{fine, first_held}
@@ -8,8 +8,6 @@ use Rattle.paper.specs.declared.Refusal.TheVariants.{IsSpoiled}
 use Rattle.lists.specs.Bytes.{zeros}
 use Rattle.reading.specs.Reading.{read_pdu}
 use Rattle.reading.specs.Layouts.{reading_rows}
-use Rattle.channel.specs.declared.Concern.{Concern}
-use Rattle.channel.specs.declared.Concern.TheVariants.{Channel}
 use Rattle.channel.specs.declared.Answer.{Answer}
 use Rattle.channel.specs.declared.Answer.TheVariants.{Opened, Refused}
 use Rattle.table.specs.declared.Table.{Table}
@@ -96,7 +94,7 @@ pub record TheOneEvent (list : List ℕ) (pdus : List (List ℕ)) (n place : ℕ
       (i : ℕ) → opening.at < i → i < place → spoiled_before list pdus n i ≡ false → spoiled_before list pdus n (suc i) ≡ true
       → i ≡ q
   -- the refusal is the answer there, one of 2 to 5 or of 10 to 12
-  pub concern : Concern
+  pub concern : Option ℕ
   pub refused : answer_at list pdus q ≡ Refused why concern
   pub which : (is_of_reading why || is_of_three why) ≡ true
 
@@ -131,9 +129,9 @@ pub record TheAnswerThere : Type 0 where
 
 -- ---- "and, for a 13, the place and refusal that spoiled the channel"
 
-pub record IsTheEvent (list : List ℕ) (pdus : List (List ℕ)) (place : ℕ) (concern : Concern) (cause : Cause) : Type 0 where
+pub record IsTheEvent (list : List ℕ) (pdus : List (List ℕ)) (place : ℕ) (concern : Option ℕ) (cause : Cause) : Type 0 where
   pub channel : ℕ
-  pub concerned : concern ≡ Channel channel
+  pub concerned : concern ≡ Some channel
   pub at : ℕ
   pub why : Refusal
   pub named : cause ≡ SpoiledBy at why
@@ -142,7 +140,7 @@ pub record IsTheEvent (list : List ℕ) (pdus : List (List ℕ)) (place : ℕ) (
 abbrev pub AThirteenNamesTheEvent : Type 0
 AThirteenNamesTheEvent =
     (list input : List ℕ) (place : ℕ) (cause : Cause) → SaidOf list input place cause
-    → (concern : Concern) → answer_at list (pdus_in input) place ≡ Refused IsSpoiled concern
+    → (concern : Option ℕ) → answer_at list (pdus_in input) place ≡ Refused IsSpoiled concern
     → IsTheEvent list (pdus_in input) place concern cause
 
 -- ---- "For any other refusal it names the first rule in the order that held."
@@ -157,7 +155,7 @@ pub record IsTheFirstRule (list : List ℕ) (pdus : List (List ℕ)) (place : �
 pub record OthersNameTheFirstRule : Type 0 where
   pub any_other :
       (list input : List ℕ) (place : ℕ) (cause : Cause) → SaidOf list input place cause
-      → (why : Refusal) (concern : Concern) → answer_at list (pdus_in input) place ≡ Refused why concern → why ≢ IsSpoiled
+      → (why : Refusal) (concern : Option ℕ) → answer_at list (pdus_in input) place ≡ Refused why concern → why ≢ IsSpoiled
       → IsTheFirstRule list (pdus_in input) place why cause
   -- what is accepted has no cause
   pub accepted :

@@ -1,5 +1,6 @@
 -- A turn tells what the rules do, on any bytes of the part and of the block: case by case, both sides compute to the same.
 -- Assumes nothing.
+use Rattle.std.specs.Prelude.{None, Some}
 use mathlib.Core.Path.{◌≡◌, refl, sym, ap, ◌∙◌}
 use mathlib.Core.Bool.{Bool, true, false, not, cond}
 use mathlib.Core.Logic.{◌⊎◌, inl, inr}
@@ -17,7 +18,6 @@ use Rattle.channel.specs.declared.Offer.{Offer}
 use Rattle.channel.specs.declared.Took.{Took}
 use Rattle.channel.specs.declared.Took.TheVariants.{Bars, Spoils, Holds, Finishes}
 use Rattle.channel.specs.declared.Decline.TheVariants.{Unlisted, Full}
-use Rattle.channel.specs.declared.Concern.TheVariants.{NoChannel, Channel}
 use Rattle.channel.specs.declared.Answer.{Answer}
 use Rattle.channel.specs.declared.Answer.TheVariants.{Opened, Closed, Ignored, Refused}
 use Rattle.channel.specs.declared.Ask.{Ask}
@@ -85,7 +85,7 @@ view_open row part e = ap (λ (b : Bool). cond b (Open row part) Shut) e
 -- ---- each turn by its tests, as the code comes to it
 
 module _ (level n : ℕ) (room : Bool) (row : Record) (listed : Bool) (pri : ℕ) where
-  pub already_open : row.taken ≡ true → answering (Refused AlreadyOpen (Channel n)) ≡ creating level n room row listed pri
+  pub already_open : row.taken ≡ true → answering (Refused AlreadyOpen (Some n)) ≡ creating level n room row listed pri
   unfolding creating
   already_open e = rw e refl
 
@@ -104,20 +104,20 @@ module _ (level n : ℕ) (room : Bool) (row : Record) (listed : Bool) (pri : ℕ
   opens e f g = rw (e, f, g) refl
 
 module _ (n : ℕ) (row : Record) where
-  pub bring_shut : (offer : Offer) (len : ℕ) → row.taken ≡ false → answering (Refused NotOpen (Channel n)) ≡ bringing n row offer len
+  pub bring_shut : (offer : Offer) (len : ℕ) → row.taken ≡ false → answering (Refused NotOpen (Some n)) ≡ bringing n row offer len
   unfolding bringing
   bring_shut offer len e = rw e refl
 
   pub bring_open : (offer : Offer) (len : ℕ) → row.taken ≡ true → landing n row (took row.stage offer len) ≡ bringing n row offer len
   unfolding bringing
   bring_open offer len e =
-      sym (ap (λ (b : Bool). cond b (landing n row (took row.stage offer len)) (answering (Refused NotOpen (Channel n)))) e)
+      sym (ap (λ (b : Bool). cond b (landing n row (took row.stage offer len)) (answering (Refused NotOpen (Some n)))) e)
 
   pub close_open : (local : Bool) → row.taken ≡ true → turn Frees Clears (Closed n) CloseBack ≡ closing n row local
   unfolding closing
   close_open local e = rw e refl
 
-  pub not_open : (local : Bool) → row.taken ≡ false → local ≡ true → answering (Refused NotOpen (Channel n)) ≡ closing n row local
+  pub not_open : (local : Bool) → row.taken ≡ false → local ≡ true → answering (Refused NotOpen (Some n)) ≡ closing n row local
   unfolding closing
   not_open local e f = rw (e, f) refl
 
@@ -203,7 +203,7 @@ Rightly n room row Frees = row.taken ≡ true
 
 -- an answer concerns the channel with the number, or none
 abbrev pub Concerns : ℕ → Answer → Type 0
-Concerns n answer = (concern_of answer ≡ Channel n) ⊎ (concern_of answer ≡ NoChannel)
+Concerns n answer = (concern_of answer ≡ Some n) ⊎ (concern_of answer ≡ None)
 
 module _ (level n : ℕ) (room : Bool) (row : Record) (own : row.taken ≡ true → row.number ≡ n) where
   abbrev Says : Turn → Type 0

@@ -50,13 +50,6 @@ pub enum Decline {
     Full,
 }
 
-// Which channel a refusal concerns: refusals 1 to 7 none, 8 to 13 the one with the number.
-#[derive(Clone, Copy)]
-pub enum Concern {
-    NoChannel,
-    Channel(u32),
-}
-
 // The answer to a call.
 #[derive(Clone, Copy)]
 pub enum Answer {
@@ -70,7 +63,7 @@ pub enum Answer {
     Message { number: u32, len: usize },
     Closed { number: u32 },
     Ignored { number: u32 },
-    Refused { why: Refusal, concern: Concern },
+    Refused { why: Refusal, concern: Option<u32> },
 }
 
 // What a data PDU offers beside its block: a Length, or more of the message.
@@ -215,9 +208,9 @@ pub fn answers(answer: Answer) -> Turn
 
 // A refusal that concerns the channel with the number, and nothing else.
 fn refuses(number: u32, why: Refusal) -> Turn
-    ensures { result ≡ answering (Answer.Refused why (Concern.Channel number)) }
+    ensures { result ≡ answering (Answer.Refused why (Some number)) }
 {
-    let concern = Concern::Channel(number);
+    let concern = Some(number);
     answers(Answer::Refused { why, concern })
 }
 
@@ -328,7 +321,7 @@ fn lands(number: u32, row: Record, took: Took) -> Turn
             part: Part::Keeps,
             answer: Answer::Refused {
                 why,
-                concern: Concern::Channel(number),
+                concern: Some(number),
             },
             reply: Reply::NoReply,
         },
@@ -370,7 +363,7 @@ pub fn garbles(row: Record, why: Refusal) -> Turn
         part: Part::Keeps,
         answer: Answer::Refused {
             why,
-            concern: Concern::NoChannel,
+            concern: None,
         },
         reply: Reply::NoReply,
     }
@@ -402,7 +395,7 @@ pub fn act(level: u8, number: u32, room: bool, row: Record, ask: Ask, n: usize) 
     match ask {
         Ask::NoList => answers(Answer::Refused {
             why: Refusal::BadList,
-            concern: Concern::NoChannel,
+            concern: None,
         }),
         Ask::Name { listed, pri } => create(level, number, room, row, listed, pri),
         Ask::Block(offer) => bring(number, row, offer, n),
@@ -411,17 +404,17 @@ pub fn act(level: u8, number: u32, room: bool, row: Record, ask: Ask, n: usize) 
 }
 
 // The channel that the answer concerns.
-pub fn concerns(answer: Answer) -> Concern
+pub fn concerns(answer: Answer) -> Option<u32>
     ensures { result ≡ concern_of answer }
 {
     match answer {
-        Answer::Ready { level: _ } => Concern::NoChannel,
-        Answer::Opened { number } => Concern::Channel(number),
-        Answer::Declined { number, why: _ } => Concern::Channel(number),
-        Answer::Held { number, left: _ } => Concern::Channel(number),
-        Answer::Message { number, len: _ } => Concern::Channel(number),
-        Answer::Closed { number } => Concern::Channel(number),
-        Answer::Ignored { number } => Concern::Channel(number),
+        Answer::Ready { level: _ } => None,
+        Answer::Opened { number } => Some(number),
+        Answer::Declined { number, why: _ } => Some(number),
+        Answer::Held { number, left: _ } => Some(number),
+        Answer::Message { number, len: _ } => Some(number),
+        Answer::Closed { number } => Some(number),
+        Answer::Ignored { number } => Some(number),
         Answer::Refused { why: _, concern } => concern,
     }
 }

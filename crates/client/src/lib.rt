@@ -18,7 +18,7 @@ ghost use Rattle.connection.specs.States.{state_of};
 ghost use Rattle.client.specs.Asking.{nowhere, create_ask, unread_ask, heard_in, closing_of, told, event_asked};
 ghost use Rattle.client.specs.Client.{Gives, stepped, place_if, bad_call, called, received, locally_closed, started, store_started};
 
-use channel::{Answer, Ask, Concern, Offer, Reply};
+use channel::{Answer, Ask, Offer, Reply};
 use deciding::Matter;
 use paper::{PARTS, Refusal};
 use reading::{Carried, Extent, Pdu};
@@ -172,8 +172,8 @@ fn place_for(answer: Answer, place: usize) -> usize
     ensures { result ≡ place_if (concern_of answer) place }
 {
     match channel::concerns(answer) {
-        Concern::NoChannel => PARTS,
-        Concern::Channel(_) => place,
+        None => PARTS,
+        Some(_) => place,
     }
 }
 
@@ -221,13 +221,13 @@ fn taken(
 
 // Refusal 1 gives back the very table that came in.
 fn refused(table: Table) -> Received
-    ensures { result ≡ record { table = table; answer = Answer.Refused Refusal.BadCall Concern.NoChannel; sent = 0; place = PARTS } }
+    ensures { result ≡ record { table = table; answer = Answer.Refused Refusal.BadCall None; sent = 0; place = PARTS } }
 {
     Received {
         table,
         answer: Answer::Refused {
             why: Refusal::BadCall,
-            concern: Concern::NoChannel,
+            concern: None,
         },
         sent: 0,
         place: PARTS,

@@ -1,10 +1,9 @@
 -- The client end as a host in C calls it: the table in bytes that the host lends, the answer in one number.
-use Rattle.std.specs.Prelude.{ℕ, Bool, true, false, cond, not, ◌&&◌, ◌||◌, List, eqb, ltb, length}
+use Rattle.std.specs.Prelude.{ℕ, Bool, true, false, cond, not, ◌&&◌, ◌||◌, List, eqb, ltb, length, None}
 use Rattle.paper.specs.Sizes.{PARTS, STORE, REPLY_MIN}
 use Rattle.paper.specs.declared.Refusal.TheVariants.{BadCall}
 use Rattle.lists.specs.Bytes.{laid}
 use Rattle.reading.specs.Reading.{read_pdu}
-use Rattle.channel.specs.declared.Concern.TheVariants.{NoChannel}
 use Rattle.channel.specs.declared.Answer.TheVariants.{Refused}
 use Rattle.channel.specs.Answers.{concern_of}
 use Rattle.table.specs.declared.Table.{Table}
@@ -24,7 +23,7 @@ pub record Faced : Type 0 where
 
 -- refusal 1, packed
 unfoldable pub no_state : ℕ
-no_state = packed_answer (Refused BadCall NoChannel) PARTS 0
+no_state = packed_answer (Refused BadCall None) PARTS 0
 
 -- a call on the table that a state tells. Bytes that are no state of the client: refusal 1, and every byte stays.
 unfoldable pub faced : List ℕ → List ℕ → List ℕ → Whole → Faced

@@ -16,7 +16,7 @@ ghost use Rattle.client.specs.Client.{stepped};
 ghost use Rattle.saved.specs.Saved.{CLIENT, table_in, is_good};
 ghost use Rattle.client_face.specs.Face.{no_state, dvc_received, dvc_closed, dvc_started, asked_by, bad_face, Gives, faces};
 
-use channel::{Answer, Concern};
+use channel::Answer;
 use client::{Asked, Begun};
 use deciding::Matter;
 use paper::{PARTS, Refusal};
@@ -49,7 +49,7 @@ fn refused() -> u64
 {
     let answer = Answer::Refused {
         why: Refusal::BadCall,
-        concern: Concern::NoChannel,
+        concern: None,
     };
     packing::pack_answer(answer, 0, PARTS, 0)
 }

@@ -2,6 +2,7 @@
 -- By induction on the calls of `cut`: before each the channel holds what the calls before it cut. The run may hold any events of other
 -- channels; it starts in any sound, ready state.
 -- Assumes nothing.
+use Rattle.std.specs.Prelude.{None, Some}
 use mathlib.Core.Path.{◌≡◌, refl, sym, ap, ◌∙◌}
 use mathlib.Core.Logic.{⊎_elim}
 use mathlib.Core.Bool.{Bool, true, false, not, cond}
@@ -24,7 +25,6 @@ use Rattle.channel.specs.declared.Stage.{Stage}
 use Rattle.channel.specs.declared.Stage.TheVariants.{Idle, Joining, Spoiled}
 use Rattle.channel.specs.declared.Offer.TheVariants.{First, More}
 use Rattle.paper.specs.declared.Refusal.TheVariants.{WrongTime}
-use Rattle.channel.specs.declared.Concern.TheVariants.{NoChannel}
 use Rattle.channel.specs.declared.Answer.TheVariants.{Held, Message, Refused}
 use Rattle.channel.specs.declared.Took.{Took}
 use Rattle.channel.specs.declared.Took.TheVariants.{Holds, Finishes}
@@ -66,8 +66,8 @@ next_in f v (Capabilities version) = v
 next_in f v (Of n a) = (act f.level n f.room v a).view
 
 abbrev pub told_in : Around → View → Event → Told
-told_in f v (Unreadable why) = record { answer = Refused why NoChannel; reply = []; message = [] }
-told_in f v (Capabilities version) = record { answer = Refused WrongTime NoChannel; reply = []; message = [] }
+told_in f v (Unreadable why) = record { answer = Refused why None; reply = []; message = [] }
+told_in f v (Capabilities version) = record { answer = Refused WrongTime None; reply = []; message = [] }
 told_in f v (Of n a) = told_by (act f.level n f.room v a)
 
 own_in_law :

@@ -1,5 +1,5 @@
 -- Demand 1, sentence by sentence.
-use Rattle.std.specs.Prelude.{ℕ, ◌≡◌, ◌≢◌, Bool, true, false, List, length}
+use Rattle.std.specs.Prelude.{ℕ, ◌≡◌, ◌≢◌, Bool, true, false, List, length, Option}
 use Rattle.paper.specs.Sizes.{PARTS, STORE}
 use Rattle.paper.specs.Rows.{first_held, comes_to}
 use Rattle.paper.specs.declared.Refusal.{Refusal}
@@ -12,7 +12,6 @@ use Rattle.writing.specs.Writing as writing
 use Rattle.writing.specs.declared.Written.TheVariants.{Refused as NotWritten}
 use Rattle.cutting.specs.Cutting as cutting
 use Rattle.cutting.specs.declared.Piece.TheVariants.{Refused as NotCut}
-use Rattle.channel.specs.declared.Concern.{Concern}
 use Rattle.channel.specs.declared.Answer.TheVariants.{Refused}
 use Rattle.channel.specs.Channel.{LocalClose}
 use Rattle.table.specs.declared.Table.{Table}
@@ -78,11 +77,11 @@ pub record BadInputGetsItsNumber : Type 0 where
 pub record ARefusalLeavesAll : Type 0 where
   -- but for the one channel, which is the one with the number that the PDU carries
   pub receive :
-      (t : Table) (store list pdu reply : List ℕ) (why : Refusal) (concern : Concern) → length t.records ≡ PARTS
+      (t : Table) (store list pdu reply : List ℕ) (why : Refusal) (concern : Option ℕ) → length t.records ≡ PARTS
       → (received t store list pdu reply).result.answer ≡ Refused why concern
       → RefusedCall t store reply (event_of list pdu (read_pdu true pdu)) (received t store list pdu reply) why concern
   pub local_close :
-      (t : Table) (store : List ℕ) (n : ℕ) (reply : List ℕ) (why : Refusal) (concern : Concern)
+      (t : Table) (store : List ℕ) (n : ℕ) (reply : List ℕ) (why : Refusal) (concern : Option ℕ)
       → length t.records ≡ PARTS
       → (locally_closed t store n reply).result.answer ≡ Refused why concern
       → RefusedCall t store reply (Of n LocalClose) (locally_closed t store n reply) why concern

@@ -1,6 +1,6 @@
 -- Garbled blocks: which PDUs they are, whose events, what they do; and the fault that they are about: "A cut-off Data First
 -- came in, was refused with 2, and the Data behind it went up as a command."
-use Rattle.std.specs.Prelude.{ℕ, ◌≤◌, ◌<◌, ◌≡◌, Bool, true, false, List, [], ◌∷◌, length}
+use Rattle.std.specs.Prelude.{ℕ, ◌≤◌, ◌<◌, ◌≡◌, Bool, true, false, List, [], ◌∷◌, length, None}
 use Rattle.paper.specs.Commands.{DATA_FIRST}
 use Rattle.paper.specs.declared.Refusal.{Refusal}
 use Rattle.paper.specs.declared.Refusal.TheVariants.{CutShort}
@@ -12,7 +12,6 @@ use Rattle.reading.specs.declared.Carried.TheVariants.{Number}
 use Rattle.reading.specs.declared.Pdu.TheVariants.{Refused as NotRead}
 use Rattle.channel.specs.declared.Stage.TheVariants.{Spoiled}
 use Rattle.channel.specs.declared.Record.{Record}
-use Rattle.channel.specs.declared.Concern.TheVariants.{NoChannel}
 use Rattle.channel.specs.declared.Answer.{Answer}
 use Rattle.channel.specs.declared.Answer.TheVariants.{Ready, Opened, Declined, Held, Message, Closed, Ignored, Refused}
 use Rattle.channel.specs.Channel.{Act, BadCreate, Create, Bring, Garbled, Closing, LocalClose, Shut, Open, restaged}
@@ -52,7 +51,7 @@ pub record AGarbledBlockSpoils : Type 0 where
       (n : ℕ) (why : Refusal) (st : State) → Steady st → (r : Record) (b : List ℕ) → view n st ≡ Open r b
       → view n (stepped st (Of n (Garbled why))).state ≡ Open (restaged r Spoiled) b
   pub answers :
-      (n : ℕ) (why : Refusal) (st : State) → Steady st → (stepped st (Of n (Garbled why))).answer ≡ Refused why NoChannel
+      (n : ℕ) (why : Refusal) (st : State) → Steady st → (stepped st (Of n (Garbled why))).answer ≡ Refused why None
   pub spoiled_already :
       (n : ℕ) (why : Refusal) (st : State) → Steady st → (r : Record) (b : List ℕ) → view n st ≡ Open r b
       → r.stage ≡ Spoiled → (stepped st (Of n (Garbled why))).state ≡ st
@@ -106,7 +105,7 @@ NeverClosed (e ∷ es) = (is_close e ≡ false) × NeverClosed es
 -- a garbled block on an open channel, and then a run: "hands up nothing until it has been closed and opened again"
 pub record NoHalfMessage (n : ℕ) (st : State) (c : Call) (why : Refusal) (xs : List Call) : Type 0 where
   -- the block itself: the refusal of reading, and nothing else
-  pub refused_as_read : told st c ≡ tells_none (Refused why NoChannel)
+  pub refused_as_read : told st c ≡ tells_none (Refused why None)
   -- until it is opened again nothing goes up on that channel, whatever follows on it and on others
   pub nothing_up : AllTold NotOpened (told_to n (after st c) xs) → AllTold NothingUp (told_to n (after st c) xs)
   -- and it isn't opened again before it is closed

@@ -1,6 +1,6 @@
 -- "With a panel end joined to it in order and without loss, and proper buffers and lists at both, both have the same open
 -- numbers once every sent PDU has been received."
-use Rattle.std.specs.Prelude.{ℕ, ◌≤◌, ◌<◌, ◌≡◌, ◌≢◌, true, false, List, [], ◌∷◌, length, take}
+use Rattle.std.specs.Prelude.{ℕ, ◌≤◌, ◌<◌, ◌≡◌, ◌≢◌, true, false, List, [], ◌∷◌, length, take, Option}
 use Rattle.paper.specs.Sizes.{STORE, REPLY_MIN}
 use Rattle.paper.specs.declared.Refusal.{Refusal}
 use Rattle.paper.specs.declared.Refusal.TheVariants.{AlreadyOpen, NotAwaited}
@@ -12,7 +12,6 @@ use Rattle.writing.specs.declared.Written.TheVariants.{Length}
 use Rattle.writing.specs.Writing.{written, outcome}
 use Rattle.listeners.specs.Listeners.{good_list}
 use Rattle.channel.specs.declared.Record.{Record}
-use Rattle.channel.specs.declared.Concern.{Concern}
 use Rattle.channel.specs.declared.Answer.TheVariants as answer
 use Rattle.channel.specs.Channel.{Open}
 use Rattle.connection.specs.States.{view}
@@ -39,12 +38,12 @@ module _ (one two : List ℕ) (ms : List Move) where
     -- "refusals 9 (panel) and 16 (shore) never come up"
     pub never_9 :
         (pdu : List ℕ) (rest : List (List ℕ)) → (reached one two ms).down ≡ (pdu ∷ rest)
-        → (list buffer : List ℕ) → good_list list ≡ true → REPLY_MIN ≤ length buffer → (concern : Concern)
+        → (list buffer : List ℕ) → good_list list ≡ true → REPLY_MIN ≤ length buffer → (concern : Option ℕ)
         → (panel.gives (reached one two ms).panel (panel.receives list pdu) buffer).result.answer
         ≢ answer.Refused AlreadyOpen concern
     pub never_16 :
         (pdu : List ℕ) (rest : List (List ℕ)) → (reached one two ms).up ≡ (pdu ∷ rest)
-        → (buffer : List ℕ) → REPLY_MIN ≤ length buffer → (concern : Concern)
+        → (buffer : List ℕ) → REPLY_MIN ≤ length buffer → (concern : Option ℕ)
         → (shore.gives (reached one two ms).shore (shore.receives pdu) buffer).said ≢ said.Refused NotAwaited concern
     -- no PDU is refused in reading by the other end
     pub panel_reads :

@@ -1,10 +1,8 @@
 -- The lines that the programs print. The walker's: "Fields: place from 0; answer [..]; channel, `-` for ready and refusals 1 to 7;
 -- number [..]; reply length." The text is ASCII: single spaces, decimal numbers, one LF (10) at the end.
-use Rattle.std.specs.Prelude.{ℕ, ◌+◌, ◌*◌, cond, List, [], ◌∷◌, ◌++◌, eqb, take}
+use Rattle.std.specs.Prelude.{ℕ, ◌+◌, ◌*◌, cond, List, [], ◌∷◌, ◌++◌, eqb, take, Option, None, Some}
 use Rattle.paper.specs.Sizes.{MESSAGE_MAX}
 pub use Rattle.lists.specs.Lines.{LF}
-use Rattle.channel.specs.declared.Concern.{Concern}
-use Rattle.channel.specs.declared.Concern.TheVariants.{NoChannel, Channel}
 use Rattle.channel.specs.declared.Answer.{Answer}
 use Rattle.channel.specs.Answers.{Word, ready, opened, declined, held, message, closed, ignored, refused, word_of}
 use Rattle.channel.specs.Answers.{concern_of, number_of}
@@ -44,9 +42,9 @@ word_field ignored = 105 ∷ 103 ∷ 110 ∷ 111 ∷ 114 ∷ 101 ∷ 100 ∷ 32 
 word_field refused = 114 ∷ 101 ∷ 102 ∷ 117 ∷ 115 ∷ 101 ∷ 100 ∷ 32 ∷ []
 
 -- the channel, "`-` for ready and refusals 1 to 7"
-unfoldable pub channel_field : Concern → List ℕ
-channel_field NoChannel = 45 ∷ SPACE ∷ []
-channel_field (Channel n) = field n SPACE
+unfoldable pub channel_field : Option ℕ → List ℕ
+channel_field None = 45 ∷ SPACE ∷ []
+channel_field (Some n) = field n SPACE
 
 -- the fields of an answer, and a byte that ends them: "answer [..]; channel [..]; number [..]; reply length"
 unfoldable pub answer_fields : Answer → ℕ → ℕ → List ℕ

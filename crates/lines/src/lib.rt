@@ -19,7 +19,7 @@ ghost use Rattle.lines.specs.Lines.{answer_fields, line_of, cut_line_of};
 ghost use Rattle.lines.specs.Lines.{message_line_of, MESSAGE_LINE_MAX, reading_header, REFUSED_MAX, refused_line, verdict_field, reading_line_of};
 ghost use Rattle.lines.specs.Lines.{totals_header, totals_line_of};
 
-use channel::{Answer, Concern};
+use channel::Answer;
 use paper::MESSAGE_MAX;
 
 // A number's field has at most twenty digits and the byte that ends it.
@@ -104,13 +104,13 @@ fn word(out: &mut [u8], at: usize, answer: Answer) -> usize
 }
 
 // The channel's number and a space, or `- `, from a place on. Answers its length.
-pub fn channel(out: &mut [u8], at: usize, concern: Concern) -> usize
+pub fn channel(out: &mut [u8], at: usize, concern: Option<u32>) -> usize
     ensures value { (result ≡ length (channel_field concern)) × (result ≤ FIELD_MAX) }
     ensures out_after { out.new ≡ laid out.old at (channel_field concern) }
 {
     match concern {
-        Concern::NoChannel => text(out, at, b"- "),
-        Concern::Channel(n) => field(out, at, n as u64, b' '),
+        None => text(out, at, b"- "),
+        Some(n) => field(out, at, n as u64, b' '),
     }
 }
 

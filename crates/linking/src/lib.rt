@@ -13,7 +13,6 @@ ghost use Rattle.linking.specs.Linking.{with_store, panel_text, shore_text, CALL
 ghost use Rattle.linking.specs.Linking.{shore_hosts, across, unsent, sends_one, sends_up, PIECES, message_in, count_in, host_sends};
 ghost use Rattle.linking.specs.Linking.{new_ends, both_started, dropped, is_host, no_record, link_step, STEP_MAX, Crosses};
 
-use channel::Concern;
 use client::Received;
 use cutting::Piece;
 use paper::{PDU_MAX, REPLY_MIN, STORE};
@@ -253,7 +252,7 @@ fn send_one(
         Piece::Refused(why) => {
             let said = Said::Refused {
                 why,
-                concern: Concern::Channel(number),
+                concern: Some(number),
             };
             let laid = unsent(out, from, place, said);
             Sent {

@@ -1,6 +1,7 @@
 -- Every answer of a call of the shore is small, what it sends fits its bits, and so does the place of a message: so its
 -- number gives all of it back.
 -- Assumes nothing.
+use Rattle.std.specs.Prelude.{None, Some}
 use mathlib.Core.Path.{◌≡◌, refl, sym}
 use mathlib.Core.Bool.{Bool, true, false, cond, not, ◌&&◌, ◌||◌}
 use mathlib.Core.List.{List, []}
@@ -30,7 +31,6 @@ use Rattle.laying.specs.Laying.{create_request_bytes}
 use Rattle.laying.proofs.Lengths.{length_caps_request}
 use Rattle.writing.specs.Writing.{bad_request, all_zero, bad_capabilities}
 use Rattle.channel.specs.declared.Record.{Record}
-use Rattle.channel.specs.declared.Concern.TheVariants.{NoChannel, Channel}
 use Rattle.channel.specs.declared.Answer.{Answer}
 use Rattle.channel.specs.declared.Answer.TheVariants as client
 use Rattle.channel.specs.declared.Ask.TheVariants as ask
@@ -75,7 +75,7 @@ use Rattle.packing.proofs.Small.{refusal_small, Fine, DecidedFine, decided_fine,
 -- ---- small answers
 
 -- a refusal that concerns no channel
-none_small : (why : Refusal) → SmallSaid (Refused why NoChannel)
+none_small : (why : Refusal) → SmallSaid (Refused why None)
 unfolding concern_said channel_of number_said
 none_small why = record { channel = lit< tt; number = refusal_small why }
 
@@ -101,7 +101,7 @@ module _ (n : ℕ) (h : n < NUMBERS) where
   unfolding concern_said channel_of number_said
   declined_small = record { channel = h; number = lit< tt }
 
-  unawaited_small : SmallSaid (Refused NotAwaited (Channel n))
+  unawaited_small : SmallSaid (Refused NotAwaited (Some n))
   unfolding concern_said channel_of number_said
   unawaited_small = record { channel = h; number = lit< tt }
 

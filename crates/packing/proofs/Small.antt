@@ -1,6 +1,7 @@
 -- Every answer of a call of the client is small, what it sends fits its bits, and so does the place of a message: so its
 -- number gives all of it back.
 -- Assumes nothing.
+use Rattle.std.specs.Prelude.{None, Some}
 use mathlib.Core.Path.{◌≡◌, refl, sym, ap, ◌∙◌}
 use mathlib.Core.Bool.{Bool, true, false, not, ◌&&◌}
 use mathlib.Core.List.{List, []}
@@ -36,7 +37,6 @@ use Rattle.channel.specs.declared.Offer.TheVariants.{First, More}
 use Rattle.channel.specs.declared.Took.{Took}
 use Rattle.channel.specs.declared.Took.TheVariants.{Bars, Spoils, Holds, Finishes}
 use Rattle.channel.specs.declared.Decline.TheVariants.{Unlisted, Full}
-use Rattle.channel.specs.declared.Concern.TheVariants.{NoChannel, Channel}
 use Rattle.channel.specs.declared.Answer.{Answer}
 use Rattle.channel.specs.declared.Answer.TheVariants.{Ready, Opened, Declined, Held, Message, Closed, Ignored, Refused}
 use Rattle.channel.specs.declared.Ask.{Ask}
@@ -99,7 +99,7 @@ refusal_small LogFull = lit< tt
 refusal_small NotBlocks = lit< tt
 
 -- a refusal that concerns no channel
-none_small : (why : Refusal) → Small (Refused why NoChannel)
+none_small : (why : Refusal) → Small (Refused why None)
 unfolding concern_of channel_of number_of
 none_small why = record { channel = lit< tt; number = refusal_small why }
 
@@ -109,7 +109,7 @@ ready_small level h = record { channel = lit< tt; number = h }
 
 -- those of a channel
 module _ (n : ℕ) (h : n < NUMBERS) where
-  refused_small : (why : Refusal) → Small (Refused why (Channel n))
+  refused_small : (why : Refusal) → Small (Refused why (Some n))
   unfolding concern_of channel_of number_of
   refused_small why = record { channel = h; number = refusal_small why }
 

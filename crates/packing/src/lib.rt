@@ -9,7 +9,7 @@ ghost use Rattle.paper.specs.Refusals.{refusal_number};
 ghost use Rattle.channel.specs.Answers.{decline_number};
 ghost use Rattle.packing.specs.Packing.{COUNTED, packed, refused_word, channel_for, packed_for, packed_said_for};
 
-use channel::{Answer, Concern, Decline};
+use channel::{Answer, Decline};
 use paper::Refusal;
 use shore::Said;
 
@@ -21,13 +21,13 @@ fn pack(word: u64, channel: u32, number: u64, place: usize, sent: usize) -> u64
     channel as u64 + 4294967296 * (number % 8192 + 8192 * behind)
 }
 
-fn pack_refusal(why: Refusal, concern: Concern, number: u32, sent: usize) -> u64
+fn pack_refusal(why: Refusal, concern: Option<u32>, number: u32, sent: usize) -> u64
     ensures { result ≡ packed (refused_word concern) (channel_for number concern) (refusal_number why) 0 sent }
 {
     let which = paper::refusal_number(why) as u64;
     match concern {
-        Concern::NoChannel => pack(7, 0, which, 0, sent),
-        Concern::Channel(_) => pack(15, number, which, 0, sent),
+        None => pack(7, 0, which, 0, sent),
+        Some(_) => pack(15, number, which, 0, sent),
     }
 }
 

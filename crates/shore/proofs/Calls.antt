@@ -1,5 +1,6 @@
 -- Refusal 1 in front of a step: what a call gives, guarded.
 -- Assumes nothing.
+use Rattle.std.specs.Prelude.{None}
 use mathlib.Core.Path.{◌≡◌, refl, sym, ◌∙◌}
 use mathlib.Core.Logic.{◌≢◌}
 use mathlib.Core.Bool.{Bool, true, false, cond, not}
@@ -29,7 +30,6 @@ use Rattle.table.proofs.Recount.{opens_none, awaits_none}
 use Rattle.channel.specs.declared.Change.TheVariants.{Becomes}
 use Rattle.channel.specs.Channel.{blank, class_at}
 use Rattle.connection.proofs.Putting.{put_becomes}
-use Rattle.channel.specs.declared.Concern.TheVariants.{NoChannel}
 use Rattle.client.specs.Client.{bad_call, place_for}
 use Rattle.shore.specs.declared.Shore.{Shore}
 use Rattle.shore.specs.declared.Given.{Given}
@@ -63,7 +63,7 @@ gives_whole w s reply storeAfter replyAfter r e g = rw e (g.result, (g.stored, g
 -- a refusal that concerns no channel: nothing but the answer
 pub gives_refused :
     (st : Standing) (why : Refusal) (reply : List ℕ) (r : Given)
-    → r ≡ record { shore = st.shore; said = Refused why NoChannel; sent = 0; place = PARTS }
+    → r ≡ record { shore = st.shore; said = Refused why None; sent = 0; place = PARTS }
     → Gives (refused st why) reply r st.store reply
 unfolding laid place_for concern_said
 gives_refused st why reply r f = record { result = f; stored = refl; replied = refl }
@@ -84,7 +84,7 @@ out_passes s out step e = rw e
 -- a refusal sends nothing, and writes nothing
 pub unsent :
     (s : Shore) (why : Refusal) (out : List ℕ) (w : Sends) (r : Sending) → w ≡ sends_of out (refused (storeless s) why)
-    → r ≡ record { shore = s; said = Refused why NoChannel; sent = 0 } → (r ≡ w.result) × (out ≡ w.out)
+    → r ≡ record { shore = s; said = Refused why None; sent = 0 } → (r ≡ w.result) × (out ≡ w.out)
 unfolding sends_of laid
 unsent s why out w r e f = rw e (f, refl)
 
@@ -115,7 +115,7 @@ module _ (s : Shore) (next : Shore) (said : Said) (bad : Bool) (pdu out : List �
   by = e ∙ judged_so bad pdu out fits
 
   -- what writing refuses
-  pub write_refused : (why : Refusal) (r : Sending) → w ≡ NotWritten why → r ≡ record { shore = s; said = Refused why NoChannel; sent = 0 } → Sent r
+  pub write_refused : (why : Refusal) (r : Sending) → w ≡ NotWritten why → r ≡ record { shore = s; said = Refused why None; sent = 0 } → Sent r
   unfolding sends_of buffer_after outcome laid
   write_refused why r g h = go bad (ltb PDU_MAX (length pdu)) (sym g ∙ by)
     where

@@ -25,7 +25,7 @@ ghost use Rattle.shore.specs.Shore.{requested, locally_opened, started};
 ghost use Rattle.shore.specs.Asking.{nowhere, unread_heard, heard_in, closing_of, told, event_asked};
 ghost use Rattle.shore.specs.Deciding.{saying, responding, settling, seen_row, as_common, decided_of};
 
-use channel::{Answer, Ask, Change, Concern, Offer, Part, Record, Reply, Stage};
+use channel::{Answer, Ask, Change, Offer, Part, Record, Reply, Stage};
 use client::Begun;
 use paper::{PARTS, PDU_MAX, Refusal};
 use reading::{Carried, Charges, Extent, Pdu};
@@ -65,7 +65,7 @@ pub enum Said {
     Message { number: u32, len: usize },
     Closed { number: u32 },
     Ignored { number: u32 },
-    Refused { why: Refusal, concern: Concern },
+    Refused { why: Refusal, concern: Option<u32> },
 }
 
 // What `receive` and `local_close` give: what the host keeps, the answer, how many bytes of the reply to send, and the place
@@ -122,19 +122,19 @@ pub struct Decided {
 }
 
 // The channel that the answer concerns.
-pub fn concerns(said: Said) -> Concern
+pub fn concerns(said: Said) -> Option<u32>
     ensures { result ≡ concern_said said }
 {
     match said {
-        Said::Asked { version: _ } => Concern::NoChannel,
-        Said::Ready { level: _ } => Concern::NoChannel,
-        Said::Awaited { number } => Concern::Channel(number),
-        Said::Opened { number } => Concern::Channel(number),
-        Said::Declined { number } => Concern::Channel(number),
-        Said::Held { number, left: _ } => Concern::Channel(number),
-        Said::Message { number, len: _ } => Concern::Channel(number),
-        Said::Closed { number } => Concern::Channel(number),
-        Said::Ignored { number } => Concern::Channel(number),
+        Said::Asked { version: _ } => None,
+        Said::Ready { level: _ } => None,
+        Said::Awaited { number } => Some(number),
+        Said::Opened { number } => Some(number),
+        Said::Declined { number } => Some(number),
+        Said::Held { number, left: _ } => Some(number),
+        Said::Message { number, len: _ } => Some(number),
+        Said::Closed { number } => Some(number),
+        Said::Ignored { number } => Some(number),
         Said::Refused { why: _, concern } => concern,
     }
 }
@@ -270,14 +270,14 @@ fn says(ready: bool, level: u8, said: Said) -> Decided
 
 // Refusal 7.
 fn too_soon(ready: bool, level: u8) -> Decided
-    ensures { result ≡ saying ready level (Said.Refused Refusal.WrongTime Concern.NoChannel) }
+    ensures { result ≡ saying ready level (Said.Refused Refusal.WrongTime None) }
 {
     says(
         ready,
         level,
         Said::Refused {
             why: Refusal::WrongTime,
-            concern: Concern::NoChannel,
+            concern: None,
         },
     )
 }
@@ -345,7 +345,7 @@ fn settle(ready: bool, level: u8, number: u32, row: Record, status: i32) -> Deci
             level,
             Said::Refused {
                 why: Refusal::NotAwaited,
-                concern: Concern::Channel(number),
+                concern: Some(number),
             },
         );
     }
@@ -469,8 +469,8 @@ fn place_for(said: Said, place: usize) -> usize
     ensures { result ≡ place_if (concern_said said) place }
 {
     match concerns(said) {
-        Concern::NoChannel => PARTS,
-        Concern::Channel(_) => place,
+        None => PARTS,
+        Some(_) => place,
     }
 }
 
@@ -522,13 +522,13 @@ fn taken(
 
 // Refusal 1 gives back what came in.
 fn refused(shore: Shore) -> Given
-    ensures { result ≡ record { shore = shore; said = Said.Refused Refusal.BadCall Concern.NoChannel; sent = 0; place = PARTS } }
+    ensures { result ≡ record { shore = shore; said = Said.Refused Refusal.BadCall None; sent = 0; place = PARTS } }
 {
     Given {
         shore,
         said: Said::Refused {
             why: Refusal::BadCall,
-            concern: Concern::NoChannel,
+            concern: None,
         },
         sent: 0,
         place: PARTS,
@@ -590,13 +590,13 @@ pub fn local_close(shore: Shore, store: &mut [u8], number: u32, reply: &mut [u8]
 
 // A refusal of the request or of a local open: it concerns no channel, and gives back what came in.
 fn unsent(shore: Shore, why: Refusal) -> Sending
-    ensures { result ≡ record { shore = shore; said = Said.Refused why Concern.NoChannel; sent = 0 } }
+    ensures { result ≡ record { shore = shore; said = Said.Refused why None; sent = 0 } }
 {
     Sending {
         shore,
         said: Said::Refused {
             why,
-            concern: Concern::NoChannel,
+            concern: None,
         },
         sent: 0,
     }

@@ -1,6 +1,7 @@
 -- A run of the shore's calls shows each number as its own machine: the trace theorem's premises, for any steady state and for the
 -- states of a run.
 -- Assumes nothing.
+use Rattle.std.specs.Prelude.{None}
 use mathlib.Core.Path.{◌≡◌, refl, sym, ap, ◌∙◌}
 use mathlib.Core.Logic.{⊎_elim}
 use mathlib.Core.Bool.{Bool, true, false, cond, not, ◌||◌}
@@ -30,7 +31,6 @@ use Rattle.laying.specs.Laying.{create_request_bytes}
 use Rattle.laying.proofs.Lengths.{length_caps_request}
 use Rattle.writing.specs.Writing.{bad_request, bad_capabilities}
 use Rattle.channel.specs.declared.Record.{Record}
-use Rattle.channel.specs.declared.Concern.TheVariants.{NoChannel}
 use Rattle.channel.specs.declared.Answer.{Answer}
 use Rattle.channel.specs.declared.Answer.TheVariants as client
 use Rattle.channel.specs.Channel.{Act, BadCreate, Create, Bring, Garbled, Closing, LocalClose, View, Shut, Open, NoRoom}
@@ -373,9 +373,9 @@ next_in n f v (Of m d) = (deed f.level n v d).view
 
 -- and what it is told
 abbrev pub told_in : ℕ → Around → View → Event → Told
-told_in n f v (Unreadable why) = tells (Refused why NoChannel) []
-told_in n f v (Asking version charges) = tells (Refused WrongTime NoChannel) []
-told_in n f v (Response version) = tells (Refused WrongTime NoChannel) []
+told_in n f v (Unreadable why) = tells (Refused why None) []
+told_in n f v (Asking version charges) = tells (Refused WrongTime None) []
+told_in n f v (Response version) = tells (Refused WrongTime None) []
 told_in n f v (Opening name class) = told_by (asks f.level n name class f.part)
 told_in n f v (Of m d) = told_by (deed f.level n v d)
 

@@ -1,5 +1,6 @@
 -- Refusal 1 in front of a call on a state's bytes: what it leaves, and what stands behind it.
 -- Assumes nothing.
+use Rattle.std.specs.Prelude.{None}
 use mathlib.Core.Path.{◌≡◌, refl, sym, ◌∙◌}
 use mathlib.Core.Bool.{Bool, true, false, not, ◌||◌}
 use mathlib.Core.List.{List}
@@ -15,7 +16,6 @@ use Rattle.lists.specs.Bytes.{laid}
 use Rattle.lists.proofs.Cases.{both, neither}
 use Rattle.numbers.specs.Numbers.{Bytes}
 use Rattle.reading.specs.Reading.{read_pdu}
-use Rattle.channel.specs.declared.Concern.TheVariants.{NoChannel}
 use Rattle.channel.specs.Answers.{concern_of, number_of}
 use Rattle.table.specs.Sound.{sound_table}
 use Rattle.client.specs.declared.Begun.{Begun}
@@ -38,7 +38,7 @@ use Rattle.shore_face.specs.Face.{shore_in, saved_shore, faced, wrote, bad_face,
 use Rattle.shore_face.specs.Face.{dvc_shore_received, dvc_shore_closed, dvc_shore_started}
 
 -- both ends say refusal 1 alike
-pub no_state_law : packed_said (Refused BadCall NoChannel) PARTS 0 ≡ no_state
+pub no_state_law : packed_said (Refused BadCall None) PARTS 0 ≡ no_state
 unfolding no_state packed_said packed_answer said_word answer_word concern_said concern_of number_said number_of said_place answer_place
 no_state_law = refl
 
@@ -139,9 +139,9 @@ module _ (l out : List ℕ) where
   -- a refusal behind refusal 1
   pub out_unsent :
       (w : Sends) (why : Refusal) (r : ℕ) → Bytes l → is_good SHORE true l ≡ true → w ≡ sends_of out (refused (storeless (shore_in l)) why)
-      → r ≡ packed_said (Refused why NoChannel) PARTS 0 → Wrote l out w r l out
+      → r ≡ packed_said (Refused why None) PARTS 0 → Wrote l out w r l out
   out_unsent w why r bytes g e h =
-      out_gives w (record { shore = shore_in l; said = Refused why NoChannel; sent = 0 }) r l out g h (as_told l bytes (is_state_law l g))
+      out_gives w (record { shore = shore_in l; said = Refused why None; sent = 0 }) r l out g h (as_told l bytes (is_state_law l g))
       (unsent (shore_in l) why out w _ e refl)
 
   -- refusal 1: every byte stays

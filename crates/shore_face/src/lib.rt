@@ -6,7 +6,6 @@
 
 ghost use Rattle.std.specs.Prelude.{◌≡◌, true, length};
 ghost use Rattle.paper.specs.Sizes.{PARTS, STORE};
-ghost use Rattle.channel.specs.declared.Concern.TheVariants.{NoChannel};
 ghost use Rattle.shore.specs.declared.Said.TheVariants.{Refused};
 ghost use Rattle.shore.specs.Numbers.{least_number};
 ghost use Rattle.shore.specs.Asking.{told, event_asked};
@@ -17,7 +16,7 @@ ghost use Rattle.client_face.specs.Face.{no_state};
 ghost use Rattle.shore_face.specs.Face.{shore_in, dvc_shore_received, dvc_shore_closed, dvc_shore_requested, dvc_shore_opened, dvc_shore_started};
 ghost use Rattle.shore_face.specs.Face.{asked_by, bad_face, bad_out_face, Gives, faces};
 
-use channel::{Change, Concern};
+use channel::Change;
 use client::Begun;
 use paper::{PARTS, PDU_MAX, Refusal};
 use reading::Charges;
@@ -59,9 +58,9 @@ fn bad_out(state: &[u8], room: usize) -> bool
 
 // A refusal that concerns no channel.
 fn unsent(why: Refusal) -> u64
-    ensures { result ≡ packed_said (Refused why NoChannel) PARTS 0 }
+    ensures { result ≡ packed_said (Refused why None) PARTS 0 }
 {
-    let concern = Concern::NoChannel;
+    let concern = None;
     packing::pack_said(Said::Refused { why, concern }, 0, PARTS, 0)
 }
 

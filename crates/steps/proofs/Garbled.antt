@@ -1,5 +1,6 @@
 -- Garbled blocks: which PDUs they are, whose events, and what they do.
 -- Assumes nothing.
+use Rattle.std.specs.Prelude.{None}
 use mathlib.Core.Path.{◌≡◌, refl, sym, ap, ◌∙◌}
 use mathlib.Core.Bool.{Bool, true, false}
 use mathlib.Core.List.{List}
@@ -19,7 +20,6 @@ use Rattle.reading.proofs.Garbled.{BlockOf, carried_is_read}
 use Rattle.listeners.specs.Listeners.{good_list}
 use Rattle.channel.specs.declared.Stage.TheVariants.{Spoiled}
 use Rattle.channel.specs.declared.Record.{Record}
-use Rattle.channel.specs.declared.Concern.TheVariants.{NoChannel}
 use Rattle.channel.specs.declared.Answer.TheVariants.{Refused}
 use Rattle.channel.specs.Channel.{Act, BadCreate, Create, Bring, Garbled, Closing, LocalClose, View, Shut, Open, Room, restaged, act}
 use Rattle.deciding.specs.Deciding.{too_soon}
@@ -104,7 +104,7 @@ whole_is_own list pdu n h = own_block list pdu n h (read_pdu true pdu) (carried_
 -- ---- what they do
 
 module _ (n : ℕ) (why : Refusal) where
-  rule_answer : (level : ℕ) (room : Room) (v : View) → (act level n room v (Garbled why)).answer ≡ Refused why NoChannel
+  rule_answer : (level : ℕ) (room : Room) (v : View) → (act level n room v (Garbled why)).answer ≡ Refused why None
   unfolding act
   rule_answer level room Shut = refl
   rule_answer level room (Open r b) = refl
@@ -123,7 +123,7 @@ module _ (n : ℕ) (why : Refusal) where
   garbled_unopened st g v = garbled_shut st n why g.ready v
 
   -- ready, and open: it is spoiled, and the answer is the refusal of reading
-  pub garbled_answer : (st : State) → Steady st → (stepped st (Of n (Garbled why))).answer ≡ Refused why NoChannel
+  pub garbled_answer : (st : State) → Steady st → (stepped st (Of n (Garbled why))).answer ≡ Refused why None
   garbled_answer st g = step_answer st g n (Garbled why) ∙ rule_answer st.table.level (room_in st) (view n st)
 
   seen_open : (st : State) (r : Record) (b : List ℕ) → view n st ≡ Open r b → (act st.table.level n (room_in st) (view n st) (Garbled why)).view ≡ Open (restaged r Spoiled) b

@@ -1,5 +1,6 @@
 -- Each refusal number is given exactly when its row of the paper's table holds and no earlier one in the paper's order does.
 -- Assumes nothing.
+use Rattle.std.specs.Prelude.{Option, None, Some}
 use mathlib.Core.Path.{◌≡◌, refl, sym, ap, ◌∙◌}
 use mathlib.Core.Bool.{Bool, true, false, cond, not}
 use mathlib.Core.List.{List, [], ◌∷◌, ◌++◌}
@@ -30,8 +31,6 @@ use Rattle.channel.specs.declared.Stage.{Stage}
 use Rattle.channel.specs.declared.Stage.TheVariants.{Idle, Joining, Spoiled}
 use Rattle.channel.specs.declared.Record.{Record}
 use Rattle.channel.specs.declared.Offer.TheVariants.{First, More}
-use Rattle.channel.specs.declared.Concern.{Concern}
-use Rattle.channel.specs.declared.Concern.TheVariants.{NoChannel, Channel}
 use Rattle.channel.specs.declared.Answer.{Answer}
 use Rattle.channel.specs.declared.Answer.TheVariants.{Ready, Opened, Declined, Held, Message, Closed, Ignored, Refused as Refuses}
 use Rattle.paper.specs.Rows.{Verdict, fine, refused_with, Row, row, first_held, comes_to}
@@ -107,7 +106,7 @@ data_verdict (Joining wanted held) m g =
 
 -- ---- what a channel answers, open or not
 
-refuses_so : (why : Refusal) (concern : Concern) → verdict_of (Refuses why concern) ≡ refused_with why
+refuses_so : (why : Refusal) (concern : Option ℕ) → verdict_of (Refuses why concern) ≡ refused_with why
 unfolding verdict_of
 refuses_so why concern = refl
 
@@ -137,14 +136,14 @@ module _ (level n : ℕ) (room : Room) (r : Record) (part : List ℕ) where
       → says t (Bring (First len) bytes) ≡ first_held (row NotOpen (not t) ∷ row IsSpoiled (is_spoiled r.stage) ∷ row StillJoining (is_joining r.stage) ∷ row OverLimit (ltb MESSAGE_MAX len) ∷ row PastLength (ltb len (length bytes)) ∷ [])
   unfolding act first_held
   says_first true len bytes = landed_verdict n r part bytes (took r.stage (First len) (length bytes)) ∙ first_verdict r.stage len (length bytes)
-  says_first false len bytes = refuses_so NotOpen (Channel n)
+  says_first false len bytes = refuses_so NotOpen (Some n)
 
   pub says_data :
       (t : Bool) (bytes : List ℕ) → good_stage r.stage ≡ true
       → says t (Bring More bytes) ≡ first_held (row NotOpen (not t) ∷ row IsSpoiled (is_spoiled r.stage) ∷ row PastLength (passes r.stage (length bytes)) ∷ [])
   unfolding act first_held
   says_data true bytes g = landed_verdict n r part bytes (took r.stage More (length bytes)) ∙ data_verdict r.stage (length bytes) g
-  says_data false bytes g = refuses_so NotOpen (Channel n)
+  says_data false bytes g = refuses_so NotOpen (Some n)
 
   pub says_garbled : (t : Bool) (why : Refusal) → says t (Garbled why) ≡ refused_with why
   unfolding act verdict_of
@@ -174,7 +173,7 @@ soon_verdict st n a = go st.table.ready
         (t : Bool)
         → verdict (cond t (finished n st (view n st) (act st.table.level n (room_in st) (view n st) a)) (refused st (too_soon a))) ≡ cond (not t) (refused_with (too_soon a)) (verdict_of (act st.table.level n (room_in st) (view n st) a).answer)
     go true = refl
-    go false = refuses_so (too_soon a) NoChannel
+    go false = refuses_so (too_soon a) None
 
 -- it is refusal 7, but for a garbled block
 of_verdict :
@@ -240,7 +239,7 @@ module _ (t : Table) (store list pdu : List ℕ) (sound : sound_table t ≡ true
 
   unreadable : (why : Refusal) → verdict (stepped (state_of t store) (Unreadable why)) ≡ refused_with why
   unfolding stepped
-  unreadable why = refuses_so why NoChannel
+  unreadable why = refuses_so why None
 
   -- a garbled block gets its refusal, ready or not, open or not
   garbled_says : (n : ℕ) (why : Refusal) → found n (Garbled why) ≡ refused_with why
@@ -322,7 +321,7 @@ guarded_verdict t store reply s rows f = go (bad_call t (length store) (length r
     go :
         (b : Bool) → bad_call t (length store) (length reply) ≡ b
         → verdict_of (guarded t store reply s).result.answer ≡ cond b (refused_with BadCall) (first_held rows)
-    go true e = whole_verdict reply (refused (state_of t store) BadCall) (refuses t store reply s e) ∙ refuses_so BadCall NoChannel
+    go true e = whole_verdict reply (refused (state_of t store) BadCall) (refuses t store reply s e) ∙ refuses_so BadCall None
     go false e = whole_verdict reply s (passes-by t store reply s e) ∙ f (proper t (length store) (length reply) e).sound
 
 -- receive refuses with the first row that holds, and with none if none does

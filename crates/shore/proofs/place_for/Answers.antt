@@ -4,10 +4,10 @@ use Rattle.paper.specs.Sizes.{PARTS}
 use Rattle.client.specs.Client.{place_if}
 use Rattle.shore.proofs.place_for.Goals as goal
 
-pub returns-in-NoChannel : goal.returns-in-NoChannel
+pub returns-in-None : goal.returns-in-None
 unfolding place_if PARTS
-returns-in-NoChannel c = rw (sym c.concerns.ensures ∙ c.in-NoChannel.is)
+returns-in-None c = rw (sym c.concerns.ensures ∙ c.in-None.is)
 
-pub returns-in-Channel : goal.returns-in-Channel
+pub returns-in-Some : goal.returns-in-Some
 unfolding place_if
-returns-in-Channel c = rw (sym c.concerns.ensures ∙ c.in-Channel.is)
+returns-in-Some c = rw (sym c.concerns.ensures ∙ c.in-Some.is)

@@ -1,11 +1,11 @@
 -- `shore_face::dvc_shore_request` meets its contract: refusals 1 and 7 in front of what is written.
+use Rattle.std.specs.Prelude.{None}
 use mathlib.Core.Path.{refl, sym, ap, ◌∙◌}
 use mathlib.Core.Bool.{true}
 use mathlib.Core.Logic.{inl}
 use lib.ListN.{length}
 use Rattle.paper.specs.Sizes.{PARTS}
 use Rattle.paper.specs.declared.Refusal.TheVariants.{WrongTime}
-use Rattle.channel.specs.declared.Concern.TheVariants.{NoChannel}
 use Rattle.shore.specs.declared.Said.TheVariants.{Asked, Refused}
 use Rattle.shore.specs.Saying.{concern_said}
 use Rattle.shore.specs.Shore.{requested}
@@ -48,7 +48,7 @@ returns-in-Refused c =
     let good = fair_out l (length out) (sym c.bad_out.ensures ∙ c.if-bad_out.false) in
     let asked = ap (λ (h : Head). h.asked) (c.read_head.ensures ∙ head_over SHORE true l good.0) in
     let by = c.write_capabilities_request.ensures in
-    let both = out_gives l out _ (record { shore = s; said = Refused _ NoChannel; sent = 0 }) _ _ _ good.0 c.unsent-in-Refused.ensures
+    let both = out_gives l out _ (record { shore = s; said = Refused _ None; sent = 0 }) _ _ _ good.0 c.unsent-in-Refused.ensures
     (as_told l (λ i. search rules) (is_state_law l good.0))
     (gives_sent _ _ (requests s a.version _ out good.1 (sym asked ∙ c.if-read_head-ne0.false))
     (write_refused s (record { table = s.table; asked = a.version }) (Asked a.version) _ _ out _ _ (roomy s out good.1) by.value by.out_after _ _
