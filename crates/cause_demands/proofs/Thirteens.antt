@@ -17,8 +17,6 @@ use Rattle.paper.specs.declared.Refusal.TheVariants.{WrongTime, IsSpoiled}
 use Rattle.lists.proofs.Cases.{choice, true_not_false}
 use Rattle.reading.specs.Reading.{read_pdu}
 use Rattle.reading.specs.Garbled.{carries}
-use Rattle.reading.specs.declared.Carried.{Carried}
-use Rattle.reading.specs.declared.Carried.TheVariants.{NoNumber, Number}
 use Rattle.reading.specs.declared.Pdu.{Pdu}
 use Rattle.reading.specs.declared.Pdu.TheVariants.{CreateRequest, CreateResponse, DataFirst, Data, Close, CapsRequest, CapsResponse, Refused as NotRead}
 use Rattle.reading.proofs.Placed.{ReadingRefusal, Placed, placed}
@@ -136,10 +134,10 @@ Stray (Unreadable why) = eqb (refusal_number why) 13 ≡ false
 Stray (Capabilities version) = Unit {0}
 Stray (Of n a) = Unit {0}
 
-unread_stray : (why : Refusal) (carried : Carried) → ReadingRefusal why → Stray (unread why carried)
+unread_stray : (why : Refusal) (carried : Option ℕ) → ReadingRefusal why → Stray (unread why carried)
 unfolding unread
-unread_stray why NoNumber h = small why (of_reading why h).no_channel
-unread_stray why (Number n) h = tt
+unread_stray why None h = small why (of_reading why h).no_channel
+unread_stray why (Some n) h = tt
 
 pdu_stray : (list pdu : List ℕ) (p : Pdu) → Placed pdu p → Stray (event_of list pdu p)
 unfolding event_of

@@ -1,12 +1,10 @@
 -- An event as a call of `step` asks it: with no bytes in it but the place of its block in the PDU. `event_asked` says which
 -- event that is; the rest nobody need believe: proofs/Asking shows that what a PDU asks is its event.
-use Rattle.std.specs.Prelude.{ℕ, true, false, cond, List}
+use Rattle.std.specs.Prelude.{ℕ, true, false, cond, List, Option, None, Some}
 use Rattle.paper.specs.declared.Refusal.{Refusal}
 use Rattle.paper.specs.declared.Refusal.TheVariants.{WrongTime}
 use Rattle.reading.specs.Said.{bytes_at}
 use Rattle.reading.specs.Garbled.{carries}
-use Rattle.reading.specs.declared.Carried.{Carried}
-use Rattle.reading.specs.declared.Carried.TheVariants.{NoNumber, Number}
 use Rattle.reading.specs.declared.Extent.{Extent}
 use Rattle.reading.specs.declared.Pdu.{Pdu}
 use Rattle.reading.specs.declared.Pdu.TheVariants.{CreateRequest, CreateResponse, DataFirst, Data, Close}
@@ -46,9 +44,9 @@ unfoldable pub create_ask : List ℕ → List ℕ → ℕ → Ask
 create_ask list name pri = cond (good_list list) (Name (is_listed list name) pri) NoList
 
 -- what a PDU asks that reading refuses, by the number that it carries
-unfoldable pub unread_ask : Refusal → Carried → Asked
-unread_ask why NoNumber = asking 0 (Unread why false) nowhere
-unread_ask why (Number n) = asking n (Unread why true) nowhere
+unfoldable pub unread_ask : Refusal → Option ℕ → Asked
+unread_ask why None = asking 0 (Unread why false) nowhere
+unread_ask why (Some n) = asking n (Unread why true) nowhere
 
 unfoldable pub heard_in : List ℕ → List ℕ → Pdu → Asked
 heard_in list pdu (CreateRequest n class name) = asking n (Asks (create_ask list (bytes_at pdu name) class)) nowhere

@@ -21,7 +21,7 @@ ghost use Rattle.client.specs.Client.{Gives, stepped, place_if, bad_call, called
 use channel::{Answer, Ask, Offer, Reply};
 use deciding::Matter;
 use paper::{PARTS, Refusal};
-use reading::{Carried, Extent, Pdu};
+use reading::{Extent, Pdu};
 use table::{Table, Totals};
 
 // Whether Start did its work.
@@ -87,8 +87,8 @@ fn unread(pdu: &[u8], why: Refusal) -> Asked
     ensures { result ≡ unread_ask why (carries pdu.now) }
 {
     match reading::carries(pdu) {
-        Carried::NoNumber => bare(0, Matter::Unread { why, whole: false }),
-        Carried::Number(number) => bare(number, Matter::Unread { why, whole: true }),
+        None => bare(0, Matter::Unread { why, whole: false }),
+        Some(number) => bare(number, Matter::Unread { why, whole: true }),
     }
 }
 

@@ -1,7 +1,7 @@
 -- Every answer of a call of the shore is small, what it sends fits its bits, and so does the place of a message: so its
 -- number gives all of it back.
 -- Assumes nothing.
-use Rattle.std.specs.Prelude.{None, Some}
+use Rattle.std.specs.Prelude.{None, Some, Option}
 use mathlib.Core.Path.{◌≡◌, refl, sym}
 use mathlib.Core.Bool.{Bool, true, false, cond, not, ◌&&◌, ◌||◌}
 use mathlib.Core.List.{List, []}
@@ -17,8 +17,6 @@ use Rattle.paper.specs.declared.Refusal.{Refusal}
 use Rattle.paper.specs.declared.Refusal.TheVariants.{BadCall, BadField, WrongTime, OverLimit, AllTaken, NotAwaited}
 use Rattle.lists.proofs.Cases.{choice, true_not_false}
 use Rattle.numbers.specs.Numbers.{Bytes, NUMBERS}
-use Rattle.reading.specs.declared.Carried.{Carried}
-use Rattle.reading.specs.declared.Carried.TheVariants.{NoNumber, Number}
 use Rattle.reading.specs.declared.Charges.{Charges}
 use Rattle.reading.specs.declared.Pdu.{Pdu}
 use Rattle.reading.specs.declared.Pdu.TheVariants.{CreateRequest, CreateResponse, DataFirst, Data, Close}
@@ -250,10 +248,10 @@ module _ (s : Shore) (store : List ℕ) (long : length s.table.records ≡ PARTS
 abbrev HeardSmall : List ℕ → Heard → Type 0
 HeardSmall pdu a = (a.number < NUMBERS) × (length (bytes_at pdu a.block) < 8192)
 
-unread_small : (pdu : List ℕ) (why : Refusal) (carried : Carried) → CarriesSmall carried → HeardSmall pdu (unread_heard why carried)
+unread_small : (pdu : List ℕ) (why : Refusal) (carried : Option ℕ) → CarriesSmall carried → HeardSmall pdu (unread_heard why carried)
 unfolding unread_heard bytes_at
-unread_small pdu why NoNumber h = (lit< tt, lit< tt)
-unread_small pdu why (Number n) h = (h, lit< tt)
+unread_small pdu why None h = (lit< tt, lit< tt)
+unread_small pdu why (Some n) h = (h, lit< tt)
 
 heard_small : (pdu : List ℕ) → Bytes pdu → (p : Pdu) → Brings pdu p → HeardSmall pdu (heard_in pdu p)
 unfolding heard_in bytes_at PDU_MAX

@@ -1,7 +1,7 @@
 -- Every answer of a call of the client is small, what it sends fits its bits, and so does the place of a message: so its
 -- number gives all of it back.
 -- Assumes nothing.
-use Rattle.std.specs.Prelude.{None, Some}
+use Rattle.std.specs.Prelude.{None, Some, Option}
 use mathlib.Core.Path.{◌≡◌, refl, sym, ap, ◌∙◌}
 use mathlib.Core.Bool.{Bool, true, false, not, ◌&&◌}
 use mathlib.Core.List.{List, []}
@@ -20,8 +20,6 @@ use Rattle.paper.specs.declared.Refusal.TheVariants.{AllTaken, NotAwaited, NotSe
 use Rattle.lists.proofs.Cases.{choice, true_not_false, lt_or_le}
 use Rattle.numbers.specs.Numbers.{Bytes, NUMBERS}
 use Rattle.numbers.proofs.Widths.{narrowest_le}
-use Rattle.reading.specs.declared.Carried.{Carried}
-use Rattle.reading.specs.declared.Carried.TheVariants.{NoNumber, Number}
 use Rattle.reading.specs.declared.Pdu.{Pdu}
 use Rattle.reading.specs.declared.Pdu.TheVariants.{CreateRequest, CreateResponse, DataFirst, Data, Close}
 use Rattle.reading.specs.declared.Pdu.TheVariants.{CapsRequest, CapsResponse, Refused as NotRead}
@@ -311,10 +309,10 @@ module _ (t : Table) (store : List ℕ) (long : length t.records ≡ PARTS) wher
 abbrev AskedSmall : List ℕ → Asked → Type 0
 AskedSmall pdu a = (a.number < NUMBERS) × (length (bytes_at pdu a.block) < 8192)
 
-unread_small : (pdu : List ℕ) (why : Refusal) (carried : Carried) → CarriesSmall carried → AskedSmall pdu (unread_ask why carried)
+unread_small : (pdu : List ℕ) (why : Refusal) (carried : Option ℕ) → CarriesSmall carried → AskedSmall pdu (unread_ask why carried)
 unfolding unread_ask bytes_at
-unread_small pdu why NoNumber h = (lit< tt, lit< tt)
-unread_small pdu why (Number n) h = (h, lit< tt)
+unread_small pdu why None h = (lit< tt, lit< tt)
+unread_small pdu why (Some n) h = (h, lit< tt)
 
 heard_small : (list pdu : List ℕ) → Bytes pdu → (p : Pdu) → Brings pdu p → AskedSmall pdu (heard_in list pdu p)
 unfolding heard_in bytes_at PDU_MAX

@@ -78,13 +78,6 @@ pub enum Pdu {
     Refused(Refusal),
 }
 
-// The channel number that stands whole in a block of data, if one does.
-#[derive(Clone, Copy)]
-pub enum Carried {
-    NoNumber,
-    Number(u32),
-}
-
 // What both readings share: plain reading's answer, and whether strict reading refuses what that accepts.
 #[derive(Clone, Copy)]
 struct Found {
@@ -405,32 +398,32 @@ fn brings_block(cmd: u8) -> bool
 }
 
 // The number in the width of the code, where the PDU has all its bytes.
-fn whole_in(pdu: &[u8], code: u8) -> Carried
+fn whole_in(pdu: &[u8], code: u8) -> Option<u32>
     ensures { result ≡ whole_in pdu.now code }
 {
     if code == 3 {
-        return Carried::NoNumber;
+        return None;
     }
     let width = numbers::width(code);
     if pdu.len() <= width {
-        return Carried::NoNumber;
+        return None;
     }
     let number = number_at(pdu, 1, width);
-    Carried::Number(number.value)
+    Some(number.value)
 }
 
 // The channel number that a block of data carries whole, also where reading refuses the PDU, for whatever reason.
-pub fn carries(pdu: &[u8]) -> Carried
+pub fn carries(pdu: &[u8]) -> Option<u32>
     ensures { result ≡ carries pdu.now }
 {
     if pdu.len() == 0 {
-        return Carried::NoNumber;
+        return None;
     }
     let first = pdu[0];
     if brings_block(first / 16) {
         return whole_in(pdu, first % 4);
     }
-    Carried::NoNumber
+    None
 }
 
 // The number of an answer's refusal, or 0 where it is none.

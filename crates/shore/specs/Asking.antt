@@ -1,13 +1,11 @@
 -- What a call asks, as the code has it: the number, the matter, and where in the PDU the block lies. Nobody need believe this
 -- page: proofs/Asking shows that what is asked is the event.
-use Rattle.std.specs.Prelude.{ℕ, true, false, List}
+use Rattle.std.specs.Prelude.{ℕ, true, false, List, Option, None, Some}
 use Rattle.paper.specs.declared.Refusal.{Refusal}
 use Rattle.paper.specs.declared.Refusal.TheVariants.{WrongTime}
 use Rattle.reading.specs.Said.{bytes_at}
 use Rattle.reading.specs.Garbled.{carries}
 use Rattle.reading.specs.declared.Extent.{Extent}
-use Rattle.reading.specs.declared.Carried.{Carried}
-use Rattle.reading.specs.declared.Carried.TheVariants.{NoNumber, Number}
 use Rattle.reading.specs.declared.Pdu.{Pdu}
 use Rattle.reading.specs.declared.Pdu.TheVariants.{CreateRequest, CreateResponse, DataFirst, Data, Close}
 use Rattle.reading.specs.declared.Pdu.TheVariants.{CapsRequest, CapsResponse, Refused}
@@ -41,9 +39,9 @@ nowhere = record { at = 0; len = 0 }
 abbrev pub hearing : ℕ → Matter → Extent → Heard
 hearing n matter block = record { number = n; matter = matter; block = block }
 
-unfoldable pub unread_heard : Refusal → Carried → Heard
-unread_heard why NoNumber = hearing 0 (Unread why false) nowhere
-unread_heard why (Number n) = hearing n (Unread why true) nowhere
+unfoldable pub unread_heard : Refusal → Option ℕ → Heard
+unread_heard why None = hearing 0 (Unread why false) nowhere
+unread_heard why (Some n) = hearing n (Unread why true) nowhere
 
 unfoldable pub heard_in : List ℕ → Pdu → Heard
 heard_in pdu (CreateRequest n class name) = hearing 0 (Unread WrongTime false) nowhere

@@ -28,7 +28,7 @@ ghost use Rattle.shore.specs.Deciding.{saying, responding, settling, seen_row, a
 use channel::{Answer, Ask, Change, Offer, Part, Record, Reply, Stage};
 use client::Begun;
 use paper::{PARTS, PDU_MAX, Refusal};
-use reading::{Carried, Charges, Extent, Pdu};
+use reading::{Charges, Extent, Pdu};
 use table::Table;
 use writing::Written;
 
@@ -192,8 +192,8 @@ fn unread(pdu: &[u8], why: Refusal) -> Heard
     ensures { result ≡ unread_heard why (carries pdu.now) }
 {
     match reading::carries(pdu) {
-        Carried::NoNumber => bare(0, Matter::Unread { why, whole: false }),
-        Carried::Number(number) => bare(number, Matter::Unread { why, whole: true }),
+        None => bare(0, Matter::Unread { why, whole: false }),
+        Some(number) => bare(number, Matter::Unread { why, whole: true }),
     }
 }
 

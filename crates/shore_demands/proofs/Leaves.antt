@@ -18,8 +18,6 @@ use Rattle.lists.specs.Bytes.{laid}
 use Rattle.lists.proofs.Cases.{choice, and_false, both, true_not_false}
 use Rattle.reading.specs.Reading.{read_pdu}
 use Rattle.reading.specs.Garbled.{carries}
-use Rattle.reading.specs.declared.Carried.{Carried}
-use Rattle.reading.specs.declared.Carried.TheVariants.{NoNumber, Number}
 use Rattle.reading.specs.declared.Charges.{Charges}
 use Rattle.reading.specs.declared.Pdu.{Pdu}
 use Rattle.reading.specs.declared.Pdu.TheVariants.{CreateRequest, CreateResponse, DataFirst, Data, Close}
@@ -274,10 +272,10 @@ guarded_refusing s store reply e rows mild why concern =
     whole_refusing s store reply e (stepped (standing s store) e) why concern
     (step_refusing (standing s store) (record { rows = rows; bytes = p.store_size; sound = p.sound }) why concern e mild h))
 
-mild_unread : (why : Refusal) (carried : Carried) → ReadingRefusal why → Mild (unread why carried)
+mild_unread : (why : Refusal) (carried : Option ℕ) → ReadingRefusal why → Mild (unread why carried)
 unfolding unread
-mild_unread why NoNumber h = (of_reading why h).not_three
-mild_unread why (Number n) h = h
+mild_unread why None h = (of_reading why h).not_three
+mild_unread why (Some n) h = h
 
 mild_read : (pdu : List ℕ) (p : Pdu) → Placed pdu p → Mild (event_of pdu p)
 unfolding event_of

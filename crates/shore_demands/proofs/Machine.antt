@@ -1,7 +1,7 @@
 -- A run of the shore's calls shows each number as its own machine: the trace theorem's premises, for any steady state and for the
 -- states of a run.
 -- Assumes nothing.
-use Rattle.std.specs.Prelude.{None}
+use Rattle.std.specs.Prelude.{None, Option, Some}
 use mathlib.Core.Path.{◌≡◌, refl, sym, ap, ◌∙◌}
 use mathlib.Core.Logic.{⊎_elim}
 use mathlib.Core.Bool.{Bool, true, false, cond, not, ◌||◌}
@@ -20,8 +20,6 @@ use Rattle.lists.proofs.Cases.{true_not_false, choice, both}
 use Rattle.lists.proofs.Laid.{front}
 use Rattle.reading.specs.Reading.{read_pdu}
 use Rattle.reading.specs.Garbled.{carries}
-use Rattle.reading.specs.declared.Carried.{Carried}
-use Rattle.reading.specs.declared.Carried.TheVariants.{NoNumber, Number}
 use Rattle.reading.specs.declared.Charges.{Charges}
 use Rattle.reading.specs.declared.Pdu.{Pdu}
 use Rattle.reading.specs.declared.Pdu.TheVariants.{CreateRequest, CreateResponse, DataFirst, Data, Close, CapsRequest, CapsResponse}
@@ -162,10 +160,10 @@ Heard (Opening name class) = ⊥
 Heard (Of n d) = Unit {0}
 
 -- a PDU that reading refuses
-heard_unread : (why : Refusal) (carried : Carried) → Heard (unread why carried)
+heard_unread : (why : Refusal) (carried : Option ℕ) → Heard (unread why carried)
 unfolding unread
-heard_unread why NoNumber = tt
-heard_unread why (Number n) = tt
+heard_unread why None = tt
+heard_unread why (Some n) = tt
 
 -- a PDU, by its kind
 heard_read : (pdu : List ℕ) (p : Pdu) → Placed pdu p → Heard (event_of pdu p)

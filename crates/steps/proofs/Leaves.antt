@@ -21,8 +21,6 @@ use Rattle.lists.proofs.Cases.{choice, and_false, true_not_false}
 use Rattle.reading.specs.Reading.{read_pdu}
 use Rattle.reading.specs.Said.{bytes_at}
 use Rattle.reading.specs.Garbled.{carries}
-use Rattle.reading.specs.declared.Carried.{Carried}
-use Rattle.reading.specs.declared.Carried.TheVariants.{NoNumber, Number}
 use Rattle.listeners.specs.Listeners.{good_list}
 use Rattle.reading.specs.declared.Pdu.{Pdu}
 use Rattle.reading.specs.declared.Pdu.TheVariants.{CreateRequest, CreateResponse, DataFirst, Data, Close, CapsRequest, CapsResponse, Refused as NotRead}
@@ -365,10 +363,10 @@ guarded_refusing t store reply e rows mild why concern h = go (bad_call t (lengt
         let p = proper t (length store) (length reply) b in
         rw r (whole_refusing t store reply e (stepped (state_of t store) e) why concern (step_refusing (state_of t store) rows p.store_size p.sound why concern e mild (whole_answer reply (stepped (state_of t store) e) r ∙ h)))
 
-mild_unread : (why : Refusal) (carried : Carried) → ReadingRefusal why → Mild (unread why carried)
+mild_unread : (why : Refusal) (carried : Option ℕ) → ReadingRefusal why → Mild (unread why carried)
 unfolding unread
-mild_unread why NoNumber h = (of_reading why h).not_three
-mild_unread why (Number n) h = h
+mild_unread why None h = (of_reading why h).not_three
+mild_unread why (Some n) h = h
 
 mild_create : (list name : List ℕ) (pri : ℕ) → MildAct (create_act list name pri)
 unfolding create_act

@@ -15,8 +15,6 @@ use Rattle.paper.specs.declared.Refusal.{Refusal}
 use Rattle.paper.specs.declared.Refusal.TheVariants.{BadCall, BadList, WrongTime, NotOpen, AlreadyOpen, StillJoining, OverLimit, PastLength, IsSpoiled}
 use Rattle.lists.proofs.Cases.{choice, each}
 use Rattle.reading.specs.Garbled.{carries}
-use Rattle.reading.specs.declared.Carried.{Carried}
-use Rattle.reading.specs.declared.Carried.TheVariants.{NoNumber, Number}
 use Rattle.reading.specs.Reading.{read_pdu}
 use Rattle.reading.specs.Said.{bytes_at}
 use Rattle.reading.specs.declared.Extent.{Extent}
@@ -252,10 +250,10 @@ module _ (t : Table) (store list pdu : List ℕ) (sound : sound_table t ≡ true
       soon_verdict (state_of t store) n (Garbled why)
       ∙ choice (λ (v : Verdict). v ≡ refused_with why) (not t.ready) (λ e. refl) (λ e. garbled_says n why)
 
-  unread_says : (why : Refusal) (carried : Carried) → verdict (stepped (state_of t store) (unread why carried)) ≡ refused_with why
+  unread_says : (why : Refusal) (carried : Option ℕ) → verdict (stepped (state_of t store) (unread why carried)) ≡ refused_with why
   unfolding unread
-  unread_says why NoNumber = unreadable why
-  unread_says why (Number n) = garbled_verdict n why
+  unread_says why None = unreadable why
+  unread_says why (Some n) = garbled_verdict n why
 
   caps_says :
       (version : ℕ) (b : Bool) → t.ready ≡ b
