@@ -24,18 +24,11 @@ use paper::{PARTS, Refusal};
 use reading::{Extent, Pdu};
 use table::{Table, Totals};
 
-// Whether Start did its work.
-#[derive(Clone, Copy)]
-pub enum Begun {
-    Done,
-    Refused(Refusal),
-}
-
 // What Start gives: the empty table, refused or not.
 #[derive(Clone, Copy)]
 pub struct Started {
     pub table: Table,
-    pub begun: Begun,
+    pub begun: Result<(), Refusal>,
 }
 
 // What a call gives: the next table, the answer, how many bytes of the reply to send, and the place of the record of the
@@ -255,13 +248,13 @@ pub fn start(store: &mut [u8]) -> Started
     if store.len() != paper::STORE {
         return Started {
             table: table::empty(),
-            begun: Begun::Refused(Refusal::BadCall),
+            begun: Err(Refusal::BadCall),
         };
     }
     lists::clear(store);
     Started {
         table: table::empty(),
-        begun: Begun::Done,
+        begun: Ok(()),
     }
 }
 

@@ -1,5 +1,6 @@
 -- A call on bytes: refusal 1 in front of it leaves every byte, and behind it the step is given.
 -- Assumes nothing.
+use Rattle.std.specs.Prelude.{Result, Err, Ok}
 use mathlib.Core.Path.{◌≡◌, refl, sym, ap, ◌∙◌}
 use mathlib.Core.Bool.{Bool, true, false, not, cond, ◌&&◌, ◌||◌}
 use mathlib.Core.List.{List, []}
@@ -28,8 +29,6 @@ use Rattle.connection.specs.States.{state_of, place_after}
 use Rattle.reading.specs.Reading.{read_pdu}
 use Rattle.client.specs.Events.{Event}
 use Rattle.client.specs.Asking.{event_asked}
-use Rattle.client.specs.declared.Begun.{Begun}
-use Rattle.client.specs.declared.Begun.TheVariants.{Done, Refused as NotBegun}
 use Rattle.client.specs.declared.Received.{Received}
 use Rattle.client.specs.Client as client
 use Rattle.client.specs.Client.{Stepped, Whole, place_if, refused, stepped, bad_call, place_for, whole_of, called, received, locally_closed, started, store_started}
@@ -221,15 +220,15 @@ face_is f g r stateAfter storeAfter replyAfter e h = rw e h
 -- ---- Start
 
 -- whether the library's Start did its work
-abbrev pub is_done : Begun → Bool
-is_done Done = true
-is_done (NotBegun why) = false
+abbrev pub is_done : Result (Unit {0}) Refusal → Bool
+is_done (Ok tt) = true
+is_done (Err why) = false
 
 begun_is : (store : List ℕ) → is_done (started store).begun ≡ eqb (length store) STORE
 unfolding started
 begun_is store = go (eqb (length store) STORE)
   where
-    go : (b : Bool) → is_done (cond b Done (NotBegun BadCall)) ≡ b
+    go : (b : Bool) → is_done (cond b (Ok tt) (Err BadCall)) ≡ b
     go true = refl
     go false = refl
 
@@ -238,7 +237,7 @@ unfolding begins
 begins_other mark t state store h = rw (ne_eqb (length state) STATE h)
 
 pub begins_refused :
-    (mark : ℕ) (t : Table) (state store : List ℕ) (b : Begun) → b ≡ (started store).begun → is_done b ≡ false
+    (mark : ℕ) (t : Table) (state store : List ℕ) (b : Result (Unit {0}) Refusal) → b ≡ (started store).begun → is_done b ≡ false
     → begins mark t state store ≡ record { answer = 1; state = state; store = store }
 unfolding begins
 begins_refused mark t state store b e f =
@@ -246,14 +245,14 @@ begins_refused mark t state store b e f =
     rw (not_its_size, and_false (eqb (length state) STATE))
 
 pub begins_done :
-    (mark : ℕ) (t : Table) (state store : List ℕ) (b : Begun) → length state ≡ STATE → b ≡ (started store).begun → is_done b ≡ true
+    (mark : ℕ) (t : Table) (state store : List ℕ) (b : Result (Unit {0}) Refusal) → length state ≡ STATE → b ≡ (started store).begun → is_done b ≡ true
     → begins mark t state store ≡ record { answer = 0; state = saved mark 0 t; store = store_started store }
 unfolding begins
 begins_done mark t state store b h e f =
     let its_size : eqb (length store) STORE ≡ true = sym (begun_is store) ∙ ap is_done (sym e) ∙ f in
     rw (its_size, eq-eqb (length state) STATE h)
 
-pub store_left : (store : List ℕ) (b : Begun) → b ≡ (started store).begun → is_done b ≡ false → store_started store ≡ store
+pub store_left : (store : List ℕ) (b : Result (Unit {0}) Refusal) → b ≡ (started store).begun → is_done b ≡ false → store_started store ≡ store
 unfolding store_started
 store_left store b e f =
     let not_its_size : eqb (length store) STORE ≡ false = sym (begun_is store) ∙ ap is_done (sym e) ∙ f in

@@ -17,7 +17,7 @@ ghost use Rattle.saved.specs.Saved.{CLIENT, table_in, is_good};
 ghost use Rattle.client_face.specs.Face.{no_state, dvc_received, dvc_closed, dvc_started, asked_by, bad_face, Gives, faces};
 
 use channel::Answer;
-use client::{Asked, Begun};
+use client::Asked;
 use deciding::Matter;
 use paper::{PARTS, Refusal};
 
@@ -136,11 +136,11 @@ pub extern "C" fn dvc_start(state: &mut [u8], store: &mut [u8]) -> u32
     let started = client::start(store);
     let begun = started.begun;
     match begun {
-        Begun::Done => {
+        Ok(()) => {
             saved::begin(state, 67);
             0
         }
-        Begun::Refused(_) => 1,
+        Err(_) => 1,
     }
 }
 

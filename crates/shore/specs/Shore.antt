@@ -1,6 +1,6 @@
 -- The shore's steps. One number's rules are `deed`; here stand what a step does with the state, refusals 1, 7, 15, 5 and 11,
 -- and what each call answers and leaves in every buffer.
-use Rattle.std.specs.Prelude.{ℕ, min, Bool, true, false, cond, not, ◌||◌, List, [], eqb, ltb, length, None}
+use Rattle.std.specs.Prelude.{ℕ, min, Bool, true, false, cond, not, ◌||◌, List, [], eqb, ltb, length, None, Err, Ok}
 use Rattle.paper.specs.Sizes.{PARTS, STORE, PDU_MAX}
 use Rattle.paper.specs.Rows.{refuse}
 use Rattle.paper.specs.declared.Refusal.{Refusal}
@@ -18,7 +18,6 @@ use Rattle.table.specs.Table.{empty_table, free_place, with_record}
 use Rattle.table.specs.Sound.{sound_table}
 use Rattle.connection.specs.States.{State, state_of, view, save}
 use Rattle.client.specs.Client.{bad_call, place_for}
-use Rattle.client.specs.declared.Begun.TheVariants.{Done, Refused as NotBegun}
 use Rattle.shore.specs.declared.Said.{Said}
 use Rattle.shore.specs.declared.Said.TheVariants.{Asked, Ready, Awaited, Refused}
 use Rattle.shore.specs.declared.Shore.{Shore}
@@ -207,5 +206,5 @@ unfoldable pub started : List ℕ → Started
 started store =
     record {
       shore = record { table = empty_table; asked = 0 };
-      begun = cond (eqb (length store) STORE) Done (NotBegun BadCall);
+      begun = cond (eqb (length store) STORE) (Ok tt) (Err BadCall);
     }

@@ -26,7 +26,6 @@ ghost use Rattle.shore.specs.Asking.{nowhere, unread_heard, heard_in, closing_of
 ghost use Rattle.shore.specs.Deciding.{saying, responding, settling, seen_row, as_common, decided_of};
 
 use channel::{Answer, Ask, Change, Offer, Part, Record, Reply, Stage};
-use client::Begun;
 use paper::{PARTS, PDU_MAX, Refusal};
 use reading::{Charges, Extent, Pdu};
 use table::Table;
@@ -44,7 +43,7 @@ pub struct Shore {
 #[derive(Clone, Copy)]
 pub struct Started {
     pub shore: Shore,
-    pub begun: Begun,
+    pub begun: Result<(), Refusal>,
 }
 
 // The answer to a call.

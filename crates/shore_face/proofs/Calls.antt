@@ -1,6 +1,6 @@
 -- Refusal 1 in front of a call on a state's bytes: what it leaves, and what stands behind it.
 -- Assumes nothing.
-use Rattle.std.specs.Prelude.{None}
+use Rattle.std.specs.Prelude.{None, Result, Err, Ok}
 use mathlib.Core.Path.{◌≡◌, refl, sym, ◌∙◌}
 use mathlib.Core.Bool.{Bool, true, false, not, ◌||◌}
 use mathlib.Core.List.{List}
@@ -18,8 +18,6 @@ use Rattle.numbers.specs.Numbers.{Bytes}
 use Rattle.reading.specs.Reading.{read_pdu}
 use Rattle.channel.specs.Answers.{concern_of, number_of}
 use Rattle.table.specs.Sound.{sound_table}
-use Rattle.client.specs.declared.Begun.{Begun}
-use Rattle.client.specs.declared.Begun.TheVariants.{Done, Refused as NotBegun}
 use Rattle.client.specs.Client.{bad_call, place_for, store_started}
 use Rattle.shore.specs.declared.Sending.{Sending}
 use Rattle.shore.specs.declared.Said.TheVariants.{Refused}
@@ -169,25 +167,25 @@ module _ (l store : List ℕ) where
   unfolding dvc_shore_started begins
   start_short h = rw (ne_eqb (length l) STATE h) (refl, (refl, refl))
 
-  module _ (size : length l ≡ STATE) (begun : Begun) (b : begun ≡ (started store).begun) (after : List ℕ) (e : after ≡ store_started store) where
-    pub start_done : (stateAfter : List ℕ) → begun ≡ Done → stateAfter ≡ begin_over l SHORE → Starts l store 0 stateAfter after
+  module _ (size : length l ≡ STATE) (begun : Result (Unit {0}) Refusal) (b : begun ≡ (started store).begun) (after : List ℕ) (e : after ≡ store_started store) where
+    pub start_done : (stateAfter : List ℕ) → begun ≡ Ok tt → stateAfter ≡ begin_over l SHORE → Starts l store 0 stateAfter after
     unfolding dvc_shore_started begins started
     start_done stateAfter d f = go (eqb (length store) STORE) refl
       where
         go : (c : Bool) → eqb (length store) STORE ≡ c → Starts l store 0 stateAfter after
         go true s = rw (eq-eqb (length l) STATE size, s) (refl, (f ∙ begin_over_law SHORE l size, e))
         go false s =
-            let n : begun ≡ NotBegun BadCall = rw s at b in
+            let n : begun ≡ Err BadCall = rw s at b in
             let z : ◌≡◌ {A = ℕ} 0 1 = cc in
             absurd (omega arith)
 
-    pub start_not : (why : Refusal) → begun ≡ NotBegun why → Starts l store 1 l after
+    pub start_not : (why : Refusal) → begun ≡ Err why → Starts l store 1 l after
     unfolding dvc_shore_started begins started store_started
     start_not why d = go (eqb (length store) STORE) refl
       where
         go : (c : Bool) → eqb (length store) STORE ≡ c → Starts l store 1 l after
         go false s = rw (eq-eqb (length l) STATE size, s) (refl, (refl, rw s at e))
         go true s =
-            let n : begun ≡ Done = rw s at b in
+            let n : begun ≡ Ok tt = rw s at b in
             let z : ◌≡◌ {A = ℕ} 0 1 = cc in
             absurd (omega arith)

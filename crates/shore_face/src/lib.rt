@@ -17,7 +17,6 @@ ghost use Rattle.shore_face.specs.Face.{shore_in, dvc_shore_received, dvc_shore_
 ghost use Rattle.shore_face.specs.Face.{asked_by, bad_face, bad_out_face, Gives, faces};
 
 use channel::Change;
-use client::Begun;
 use paper::{PARTS, PDU_MAX, Refusal};
 use reading::Charges;
 use shore::{Heard, Matter, Said};
@@ -151,11 +150,11 @@ pub extern "C" fn dvc_shore_start(state: &mut [u8], store: &mut [u8]) -> u32
     }
     let begun = shore::start(store).begun;
     match begun {
-        Begun::Done => {
+        Ok(()) => {
             saved::begin(state, 83);
             0
         }
-        Begun::Refused(_) => 1,
+        Err(_) => 1,
     }
 }
 

@@ -1,6 +1,6 @@
 -- Each refusal number is given exactly when its row of the paper's table holds and no earlier one in the paper's order does.
 -- Assumes nothing.
-use Rattle.std.specs.Prelude.{Option, None, Some}
+use Rattle.std.specs.Prelude.{Option, None, Some, Err, Ok}
 use mathlib.Core.Path.{◌≡◌, refl, sym, ap, ◌∙◌}
 use mathlib.Core.Bool.{Bool, true, false, cond, not}
 use mathlib.Core.List.{List, [], ◌∷◌, ◌++◌}
@@ -46,7 +46,6 @@ use Rattle.connection.specs.States.{State, state_of, view_at, view, room_in}
 use Rattle.store.specs.Parts.{part}
 use Rattle.client.specs.Events.{Unreadable, Capabilities, Of, create_act, unread, event_of}
 use Rattle.client.specs.Client.{Stepped, refused, finished, acted, readied, stepped, bad_call, Whole, whole_of, guarded, received, locally_closed, started}
-use Rattle.client.specs.declared.Begun.TheVariants.{Done, Refused as NotBegun}
 use Rattle.client.proofs.Steps.{too_late, made_ready}
 use Rattle.client.proofs.Calls.{proper, refuses, passes as passes-by}
 use Rattle.steps.specs.Rows.{verdict_of, outcome_of, is_open, stage_of, is_spoiled, is_joining, passes, first_rows, data_rows, rows_of, receive_rows, close_rows, start_rows, start_outcome}
@@ -374,6 +373,6 @@ pub start_refusals : (store : List ℕ) → start_outcome (started store).begun 
 unfolding started start_outcome comes_to start_rows first_held
 start_refusals store = go (eqb (length store) STORE)
   where
-    go : (a : Bool) → start_outcome (cond a Done (NotBegun BadCall)) ≡ comes_to tt (cond (not a) (refused_with BadCall) fine)
+    go : (a : Bool) → start_outcome (cond a (Ok tt) (Err BadCall)) ≡ comes_to tt (cond (not a) (refused_with BadCall) fine)
     go true = refl
     go false = refl

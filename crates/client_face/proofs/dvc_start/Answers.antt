@@ -13,25 +13,25 @@ returns-then-state-ne-STATE c =
     let a = c.args in
     rw (begins_other CLIENT _ a.state.now a.store.now c.if-state-ne-STATE.true) (record { value = refl; state_after = refl; store_after = refl })
 
-pub returns-in-Done : goal.returns-in-Done
+pub returns-in-Ok : goal.returns-in-Ok
 unfolding STATE dvc_started
-returns-in-Done c =
+returns-in-Ok c =
     let a = c.args in
     let state = a.state.now in
     let store = a.store.now in
     let begun = ap (λ (x : Started). x.begun) c.start-started.ensures.value in
-    let done = ap is_done c.in-Done.is in
+    let done = ap is_done c.in-Ok.is in
     let empty = begin_over_law CLIENT state c.if-state-ne-STATE.false ∙ ap (saved CLIENT 0) (sym (started_empty store)) in
     rw (begins_done CLIENT _ state store c.start-started.result.begun c.if-state-ne-STATE.false begun done)
     (record { value = refl; state_after = c.begin.ensures ∙ empty; store_after = c.start-started.ensures.store_after })
 
-pub returns-in-Refused : goal.returns-in-Refused
+pub returns-in-Err : goal.returns-in-Err
 unfolding STATE dvc_started
-returns-in-Refused c =
+returns-in-Err c =
     let a = c.args in
     let state = a.state.now in
     let store = a.store.now in
     let begun = ap (λ (x : Started). x.begun) c.start-started.ensures.value in
-    let not_done = ap is_done c.in-Refused.is in
+    let not_done = ap is_done c.in-Err.is in
     rw (begins_refused CLIENT _ state store c.start-started.result.begun begun not_done)
     (record { value = refl; state_after = refl; store_after = c.start-started.ensures.store_after ∙ store_left store c.start-started.result.begun begun not_done })
