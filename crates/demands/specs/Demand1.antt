@@ -1,5 +1,5 @@
 -- Demand 1, sentence by sentence.
-use Rattle.std.specs.Prelude.{ℕ, ◌≡◌, ◌≢◌, Bool, true, false, List, length, Option}
+use Rattle.std.specs.Prelude.{ℕ, ◌≡◌, ◌≢◌, Bool, true, false, List, length, Option, Err}
 use Rattle.paper.specs.Sizes.{PARTS, STORE}
 use Rattle.paper.specs.Rows.{first_held, comes_to}
 use Rattle.paper.specs.declared.Refusal.{Refusal}
@@ -9,7 +9,6 @@ use Rattle.reading.specs.Layouts.{reading_rows}
 use Rattle.reading.specs.Strict.{read_strict, strict_rows}
 use Rattle.laying.specs.Laying.{buffer_after}
 use Rattle.writing.specs.Writing as writing
-use Rattle.writing.specs.declared.Written.TheVariants.{Refused as NotWritten}
 use Rattle.cutting.specs.Cutting as cutting
 use Rattle.cutting.specs.declared.Piece.TheVariants.{Refused as NotCut}
 use Rattle.channel.specs.declared.Answer.TheVariants.{Refused}
@@ -89,7 +88,7 @@ pub record ARefusalLeavesAll : Type 0 where
   pub start :
       (store : List ℕ) → length store ≢ STORE → ((started store).table ≡ empty_table) × (store_started store ≡ store)
   pub writing :
-      (bad : Bool) (pdu out : List ℕ) (why : Refusal) → writing.written bad pdu out ≡ NotWritten why
+      (bad : Bool) (pdu out : List ℕ) (why : Refusal) → writing.written bad pdu out ≡ Err why
       → buffer_after (writing.outcome (writing.written bad pdu out)) pdu out ≡ out
   pub cutting :
       (number : ℕ) (message : List ℕ) (offset : ℕ) (out : List ℕ) (why : Refusal)

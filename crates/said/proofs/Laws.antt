@@ -1,5 +1,6 @@
 -- Why the program's rows and words are those of the definitions.
 -- Assumes nothing.
+use Rattle.std.specs.Prelude.{Result}
 use mathlib.Core.Path.{◌≡◌, refl, ap, ◌∙◌}
 use mathlib.Core.Bool.{Bool}
 use mathlib.Core.List.{List, [], ◌∷◌, ◌++◌, append_assoc, append-nil}
@@ -18,7 +19,6 @@ use Rattle.reading.specs.declared.Pdu.TheVariants.{CreateRequest, CreateResponse
 use Rattle.reading.specs.declared.Pdu.TheVariants.{CapsRequest, CapsResponse, Refused}
 use Rattle.laying.specs.Laying.{buffer_after}
 use Rattle.writing.specs.Writing.{written, outcome}
-use Rattle.writing.specs.declared.Written.{Written}
 use Rattle.said.specs.Saying.{numbers_in, bytes_in, spelled_out, row_of, writes, again_of, answer_to, left_by}
 
 -- a row has the numbers and the bytes that are said, and at most six numbers
@@ -45,7 +45,7 @@ spelled_on (n ∷ ns) zero h = append-nil (field n SPACE)
 spelled_on (n ∷ ns) (suc i) h = rw (spelled_on ns i (omega arith), append_assoc)
 
 -- what the writer of the kind answered and left
-pub so_written : (pdu out after : List ℕ) (read : Pdu) (r : Written) (bad : Bool) (bytes : List ℕ)
+pub so_written : (pdu out after : List ℕ) (read : Pdu) (r : Result ℕ Refusal) (bad : Bool) (bytes : List ℕ)
     → r ≡ written bad bytes out → after ≡ buffer_after (outcome r) bytes out → again_of pdu read ≡ writes bad bytes
     → (r ≡ answer_to (again_of pdu read) out) × (after ≡ left_by (again_of pdu read) out)
 unfolding answer_to left_by

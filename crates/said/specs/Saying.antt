@@ -1,5 +1,5 @@
 -- A line for a PDU: what reading says of it, and whether that, written again, is the same PDU.
-use Rattle.std.specs.Prelude.{ℕ, Bool, false, cond, List, [], ◌∷◌, ◌++◌, map, length, take}
+use Rattle.std.specs.Prelude.{ℕ, Bool, false, cond, List, [], ◌∷◌, ◌++◌, map, length, take, Result, Err, Ok}
 use Rattle.paper.specs.Sizes.{PDU_MAX}
 use Rattle.paper.specs.Commands.{CREATE, DATA_FIRST, DATA, CLOSE, CAPABILITIES}
 use Rattle.paper.specs.Refusals.{refusal_number}
@@ -18,8 +18,6 @@ use Rattle.reading.specs.declared.Pdu.TheVariants.{CapsRequest, CapsResponse, Re
 use Rattle.laying.specs.Laying.{buffer_after, create_request_bytes, create_response_bytes, data_first_bytes, data_bytes, close_bytes}
 use Rattle.laying.specs.Laying.{caps_request_bytes, caps_response_bytes}
 use Rattle.writing.specs.Writing.{written, outcome, bad_request, bad_capabilities}
-use Rattle.writing.specs.declared.Written.{Written}
-use Rattle.writing.specs.declared.Written.TheVariants.{Length, Refused as NotWritten}
 use Rattle.said.specs.declared.Shown.{Shown}
 
 -- ---- what reading says
@@ -91,9 +89,9 @@ again_of pdu (CapsResponse version) = writes (bad_version version) (caps_respons
 again_of pdu (Refused why) = nothing why
 
 -- what the writer answers, and the buffer behind it
-unfoldable pub answer_to : Again → List ℕ → Written
+unfoldable pub answer_to : Again → List ℕ → Result ℕ Refusal
 answer_to (writes bad bytes) out = written bad bytes out
-answer_to (nothing why) out = NotWritten why
+answer_to (nothing why) out = Err why
 
 unfoldable pub left_by : Again → List ℕ → List ℕ
 left_by (writes bad bytes) out = buffer_after (outcome (written bad bytes out)) bytes out
@@ -102,12 +100,12 @@ left_by (nothing why) out = out
 -- ---- the line
 
 -- " same", " other", " refused", each with the line's end
-unfoldable pub word_for : Written → List ℕ → List ℕ → List ℕ
-word_for (Length n) out pdu =
+unfoldable pub word_for : Result ℕ Refusal → List ℕ → List ℕ → List ℕ
+word_for (Ok n) out pdu =
     cond (same_bytes (take n out) pdu)
     (32 ∷ 115 ∷ 97 ∷ 109 ∷ 101 ∷ 10 ∷ [])
     (32 ∷ 111 ∷ 116 ∷ 104 ∷ 101 ∷ 114 ∷ 10 ∷ [])
-word_for (NotWritten why) out pdu = 32 ∷ 114 ∷ 101 ∷ 102 ∷ 117 ∷ 115 ∷ 101 ∷ 100 ∷ 10 ∷ []
+word_for (Err why) out pdu = 32 ∷ 114 ∷ 101 ∷ 102 ∷ 117 ∷ 115 ∷ 101 ∷ 100 ∷ 10 ∷ []
 
 -- written to zeros
 unfoldable pub word_of : List ℕ → Pdu → List ℕ

@@ -22,7 +22,6 @@ ghost use Rattle.said.specs.Saying.{again_of, answer_to, left_by, word_for};
 use files::Filled;
 use paper::PDU_MAX;
 use reading::{Extent, Pdu};
-use writing::Written;
 
 // The bytes of the input, and of a line.
 const INPUT: usize = 65536;
@@ -175,7 +174,7 @@ fn text(out: &mut [u8], pdu: &[u8], read: Pdu) -> usize
 }
 
 // Writes what was read.
-fn again(out: &mut [u8], pdu: &[u8], read: Pdu) -> Written
+fn again(out: &mut [u8], pdu: &[u8], read: Pdu) -> Result<usize, Refusal>
     ensures value { result ≡ answer_to (again_of pdu.now read) out.old }
     ensures out_after { out.new ≡ left_by (again_of pdu.now read) out.old }
 {
@@ -199,7 +198,7 @@ fn again(out: &mut [u8], pdu: &[u8], read: Pdu) -> Written
             out, version, charges,
         ),
         Pdu::CapsResponse { version } => writing::write_capabilities_response(out, version),
-        Pdu::Refused(why) => Written::Refused(why),
+        Pdu::Refused(why) => Err(why),
     }
 }
 
@@ -212,12 +211,12 @@ fn same(buffer: &[u8], n: usize, pdu: &[u8]) -> bool
 }
 
 // The line's last word, from a place on, by what a writer answered and left in its buffer. Answers its length.
-fn word(out: &mut [u8], at: usize, answer: Written, buffer: &[u8], pdu: &[u8]) -> usize
+fn word(out: &mut [u8], at: usize, answer: Result<usize, Refusal>, buffer: &[u8], pdu: &[u8]) -> usize
     ensures value { (result ≡ length (word_for answer buffer.now pdu.now)) × (result ≤ 9) }
     ensures out_after { out.new ≡ laid out.old at
         (word_for answer buffer.now pdu.now) }
 {
-    let Written::Length(n) = answer else {
+    let Ok(n) = answer else {
         return lines::text(out, at, b" refused\n");
     };
     if same(buffer, n, pdu) {

@@ -29,7 +29,6 @@ use channel::{Answer, Ask, Change, Offer, Part, Record, Reply, Stage};
 use paper::{PARTS, PDU_MAX, Refusal};
 use reading::{Charges, Extent, Pdu};
 use table::Table;
-use writing::Written;
 
 // What the host keeps beside the store.
 #[derive(Clone, Copy)]
@@ -623,8 +622,8 @@ pub fn request(shore: Shore, version: u16, charges: Charges, out: &mut [u8]) -> 
         return unsent(shore, Refusal::WrongTime);
     }
     match writing::write_capabilities_request(out, version, charges) {
-        Written::Refused(why) => unsent(shore, why),
-        Written::Length(sent) => {
+        Err(why) => unsent(shore, why),
+        Ok(sent) => {
             let table = shore.table;
             Sending {
                 shore: Shore {
@@ -686,8 +685,8 @@ pub fn open(shore: Shore, name: &[u8], class: u8, out: &mut [u8]) -> Sending
     let number = least_number(table);
     let sends = channel::class_at(table.level, class);
     match writing::write_create_request(out, number, sends, name) {
-        Written::Refused(why) => unsent(shore, why),
-        Written::Length(sent) => {
+        Err(why) => unsent(shore, why),
+        Ok(sent) => {
             let row = table::blank();
             let change = Change::Becomes(awaited(table.level, number, class));
             let next = table::put(table, table.ready, table.level, k, row, change);

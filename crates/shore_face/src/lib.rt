@@ -20,7 +20,6 @@ use channel::Change;
 use paper::{PARTS, PDU_MAX, Refusal};
 use reading::Charges;
 use shore::{Heard, Matter, Said};
-use writing::Written;
 
 // What the host asks: what a PDU asks, or a close of the number.
 fn asked(heard: bool, pdu: &[u8], number: u32) -> Heard
@@ -221,8 +220,8 @@ pub extern "C" fn dvc_shore_request(
         class3: charge3,
     };
     match writing::write_capabilities_request(out, version, charges) {
-        Written::Refused(why) => unsent(why),
-        Written::Length(sent) => {
+        Err(why) => unsent(why),
+        Ok(sent) => {
             saved::ask(state, version);
             packing::pack_said(Said::Asked { version }, 0, PARTS, sent)
         }
@@ -266,8 +265,8 @@ pub extern "C" fn dvc_shore_open(state: &mut [u8], name: &[u8], class: u8, out: 
     }
     let sends = channel::class_at(head.level, class);
     match writing::write_create_request(out, number, sends, name) {
-        Written::Refused(why) => unsent(why),
-        Written::Length(sent) => {
+        Err(why) => unsent(why),
+        Ok(sent) => {
             let row = table::blank();
             let change = Change::Becomes(shore::awaited(head.level, number, class));
             saved::put(state, head.ready, head.level, k, row, change);

@@ -8,12 +8,12 @@ use Rattle.writing.specs.Writing.{written}
 use Rattle.writing.proofs.Answers.{answered, laid_so, refused_so}
 use Rattle.writing.proofs.write_capabilities_response.Goals as goal
 
-pub returns-in-Length : goal.returns-in-Length
-returns-in-Length c =
+pub returns-in-Ok : goal.returns-in-Ok
+returns-in-Ok c =
     let answer : c.judge-answer.result
     ≡ written (bad_version c.args.version) (caps_response_bytes c.args.version) c.args.out.now = answered _ _ c.judge-answer.ensures c.bad_version.ensures
     (sym (length_caps_response c.args.version)) in
-    record { value = answer; out_after = laid_so _ _ c.in-Length.is c.capabilities_response.ensures.out_after }
+    record { value = answer; out_after = laid_so _ _ c.in-Ok.is c.capabilities_response.ensures.out_after }
 
 pub returns-in_default : goal.returns-in_default
 returns-in_default c =

@@ -13,11 +13,11 @@ use Rattle.writing.proofs.write_close.Goals as goal
 pub overflow_add-narrow : goal.overflow_add-narrow
 overflow_add-narrow c = omega (arith, c.narrow.ensures, narrowest_le c.args.number)
 
-pub returns-in-Length : goal.returns-in-Length
-returns-in-Length c =
+pub returns-in-Ok : goal.returns-in-Ok
+returns-in-Ok c =
     let answer : c.judge-answer.result ≡ written false (close_bytes c.args.number) c.args.out.now = answered _ _ c.judge-answer.ensures refl
     (omega (arith, c.narrow.ensures, length_close c.args.number)) in
-    record { value = answer; out_after = laid_so _ _ c.in-Length.is c.close.ensures.out_after }
+    record { value = answer; out_after = laid_so _ _ c.in-Ok.is c.close.ensures.out_after }
 
 pub returns-in_default : goal.returns-in_default
 returns-in_default c =

@@ -18,8 +18,8 @@ overflow_add-length-2 c = omega (arith, c.narrow.ensures, narrowest_le c.args.nu
 pub overflow_add-length-3 : goal.overflow_add-length-3
 overflow_add-length-3 c = omega (arith, c.narrow.ensures, narrowest_le c.args.number)
 
-pub returns-in-Length : goal.returns-in-Length
-returns-in-Length c =
+pub returns-in-Ok : goal.returns-in-Ok
+returns-in-Ok c =
     let answer : c.judge-answer.result ≡ written (bad_request c.args.class c.args.name.now)
     (create_request_bytes c.args.number c.args.class c.args.name.now) c.args.out.now = answered _ _ c.judge-answer.ensures c.bad_request.ensures
     (omega (
@@ -27,7 +27,7 @@ returns-in-Length c =
       c.narrow.ensures,
       length_create_request c.args.number c.args.class c.args.name.now,
     )) in
-    record { value = answer; out_after = laid_so _ _ c.in-Length.is c.create_request.ensures.out_after }
+    record { value = answer; out_after = laid_so _ _ c.in-Ok.is c.create_request.ensures.out_after }
 
 pub returns-in_default : goal.returns-in_default
 returns-in_default c =

@@ -20,8 +20,8 @@ overflow_add-length c = omega (arith, c.narrow.ensures, narrowest_le c.args.numb
 pub overflow_add-length-2 : goal.overflow_add-length-2
 overflow_add-length-2 c = omega (arith, c.narrow.ensures, narrowest_le c.args.number)
 
-pub returns-in-Length : goal.returns-in-Length
-returns-in-Length c =
+pub returns-in-Ok : goal.returns-in-Ok
+returns-in-Ok c =
     let answer : c.judge-answer.result ≡ written false
     (create_response_bytes c.args.number c.args.status) c.args.out.now = answered _ _ c.judge-answer.ensures refl
     (omega (
@@ -32,7 +32,7 @@ returns-in-Length c =
     let a = c.args in
     let same = ap (λ (z : ℤ). laid a.out.now 0 (create_response_bytes a.number z))
     (to_z-of_z {w = w32} c.ranges.status) in
-    record { value = answer; out_after = laid_so _ _ c.in-Length.is (c.create_response.ensures.out_after ∙ same) }
+    record { value = answer; out_after = laid_so _ _ c.in-Ok.is (c.create_response.ensures.out_after ∙ same) }
 
 pub returns-in_default : goal.returns-in_default
 returns-in_default c =

@@ -16,12 +16,12 @@ overflow_add-length c = omega (arith, c.narrow.ensures, narrowest_le c.args.numb
 pub overflow_add-length-2 : goal.overflow_add-length-2
 overflow_add-length-2 c = omega (arith, c.narrow.ensures, narrowest_le c.args.number)
 
-pub returns-in-Length : goal.returns-in-Length
-returns-in-Length c =
+pub returns-in-Ok : goal.returns-in-Ok
+returns-in-Ok c =
     let answer : c.judge-answer.result ≡ written false
     (data_bytes c.args.number c.args.block.now) c.args.out.now = answered _ _ c.judge-answer.ensures refl
     (omega (arith, c.narrow.ensures, length_data c.args.number c.args.block.now)) in
-    record { value = answer; out_after = laid_so _ _ c.in-Length.is c.«data».ensures.out_after }
+    record { value = answer; out_after = laid_so _ _ c.in-Ok.is c.«data».ensures.out_after }
 
 pub returns-in_default : goal.returns-in_default
 returns-in_default c =

@@ -26,8 +26,8 @@ overflow_add-long-3 c =
     (rw c.narrow.ensures (narrowest_le a.number), rw c.narrow-2.ensures (narrowest_le a.length)) in
     omega (arith, widths)
 
-pub returns-in-Length : goal.returns-in-Length
-returns-in-Length c =
+pub returns-in-Ok : goal.returns-in-Ok
+returns-in-Ok c =
     let answer : c.judge-answer.result ≡ written false
     (data_first_bytes c.args.number c.args.length c.args.block.now) c.args.out.now = answered _ _ c.judge-answer.ensures refl
     (omega (
@@ -36,7 +36,7 @@ returns-in-Length c =
       c.narrow-2.ensures,
       length_data_first c.args.number c.args.length c.args.block.now,
     )) in
-    record { value = answer; out_after = laid_so _ _ c.in-Length.is c.data_first.ensures.out_after }
+    record { value = answer; out_after = laid_so _ _ c.in-Ok.is c.data_first.ensures.out_after }
 
 pub returns-in_default : goal.returns-in_default
 returns-in_default c =
