@@ -1,6 +1,7 @@
 -- A call on bytes: refusal 1 in front of it leaves every byte, and behind it the step is given.
 -- Assumes nothing.
 use Rattle.std.specs.Prelude.{Result, Err, Ok}
+use Rattle.paper.specs.declared.Refusal.{Refusal}
 use mathlib.Core.Path.{◌≡◌, refl, sym, ap, ◌∙◌}
 use mathlib.Core.Bool.{Bool, true, false, not, cond, ◌&&◌, ◌||◌}
 use mathlib.Core.List.{List, []}
@@ -220,15 +221,15 @@ face_is f g r stateAfter storeAfter replyAfter e h = rw e h
 -- ---- Start
 
 -- whether the library's Start did its work
-abbrev pub is_done : Result (Unit {0}) Refusal → Bool
-is_done (Ok tt) = true
-is_done (Err why) = false
+abbrev pub is_ok : Result (Unit {0}) Refusal → Bool
+is_ok (Ok tt) = true
+is_ok (Err why) = false
 
-begun_is : (store : List ℕ) → is_done (started store).begun ≡ eqb (length store) STORE
+begun_is : (store : List ℕ) → is_ok (started store).begun ≡ eqb (length store) STORE
 unfolding started
 begun_is store = go (eqb (length store) STORE)
   where
-    go : (b : Bool) → is_done (cond b (Ok tt) (Err BadCall)) ≡ b
+    go : (b : Bool) → is_ok (cond b (Ok tt) (Err BadCall)) ≡ b
     go true = refl
     go false = refl
 
@@ -237,25 +238,25 @@ unfolding begins
 begins_other mark t state store h = rw (ne_eqb (length state) STATE h)
 
 pub begins_refused :
-    (mark : ℕ) (t : Table) (state store : List ℕ) (b : Result (Unit {0}) Refusal) → b ≡ (started store).begun → is_done b ≡ false
+    (mark : ℕ) (t : Table) (state store : List ℕ) (b : Result (Unit {0}) Refusal) → b ≡ (started store).begun → is_ok b ≡ false
     → begins mark t state store ≡ record { answer = 1; state = state; store = store }
 unfolding begins
 begins_refused mark t state store b e f =
-    let not_its_size : eqb (length store) STORE ≡ false = sym (begun_is store) ∙ ap is_done (sym e) ∙ f in
+    let not_its_size : eqb (length store) STORE ≡ false = sym (begun_is store) ∙ ap is_ok (sym e) ∙ f in
     rw (not_its_size, and_false (eqb (length state) STATE))
 
 pub begins_done :
-    (mark : ℕ) (t : Table) (state store : List ℕ) (b : Result (Unit {0}) Refusal) → length state ≡ STATE → b ≡ (started store).begun → is_done b ≡ true
+    (mark : ℕ) (t : Table) (state store : List ℕ) (b : Result (Unit {0}) Refusal) → length state ≡ STATE → b ≡ (started store).begun → is_ok b ≡ true
     → begins mark t state store ≡ record { answer = 0; state = saved mark 0 t; store = store_started store }
 unfolding begins
 begins_done mark t state store b h e f =
-    let its_size : eqb (length store) STORE ≡ true = sym (begun_is store) ∙ ap is_done (sym e) ∙ f in
+    let its_size : eqb (length store) STORE ≡ true = sym (begun_is store) ∙ ap is_ok (sym e) ∙ f in
     rw (its_size, eq-eqb (length state) STATE h)
 
-pub store_left : (store : List ℕ) (b : Result (Unit {0}) Refusal) → b ≡ (started store).begun → is_done b ≡ false → store_started store ≡ store
+pub store_left : (store : List ℕ) (b : Result (Unit {0}) Refusal) → b ≡ (started store).begun → is_ok b ≡ false → store_started store ≡ store
 unfolding store_started
 store_left store b e f =
-    let not_its_size : eqb (length store) STORE ≡ false = sym (begun_is store) ∙ ap is_done (sym e) ∙ f in
+    let not_its_size : eqb (length store) STORE ≡ false = sym (begun_is store) ∙ ap is_ok (sym e) ∙ f in
     rw not_its_size
 
 pub started_empty : (store : List ℕ) → (started store).table ≡ empty_table

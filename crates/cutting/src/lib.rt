@@ -10,16 +10,15 @@
 ghost use Rattle.std.specs.Prelude.{◌≡◌, ◌≤◌, length};
 ghost use Rattle.paper.specs.Sizes.{MESSAGE_MAX};
 ghost use Rattle.lists.specs.Bytes.{laid};
-ghost use Rattle.cutting.specs.Cutting.{is_first, header_len, block_end, is_start, cut_pdu, cut_at, cut_buffer, packed};
+ghost use Rattle.cutting.specs.Cutting.{is_first, header_len, block_end, is_start, piece_of, cut_pdu, cut_at, cut_buffer, packed};
 
 use paper::{MESSAGE_MAX, PDU_MAX, Refusal, WHOLE_MAX};
 
-// What cutting answers.
+// What cutting gives: the PDU's length, and the offset of the next block: the message's length after the last one.
 #[derive(Clone, Copy)]
-pub enum Piece {
-    // The PDU's length, and the offset of the next block: the message's length after the last one.
-    Pdu { len: usize, next: usize },
-    Refused(Refusal),
+pub struct Piece {
+    pub len: usize,
+    pub next: usize,
 }
 
 // Whether the block at an offset is a Data First: at the front of a message that is too long for one Data.
@@ -72,7 +71,7 @@ fn is_start(number: u32, total: usize, offset: usize) -> bool
 // Lays the PDU of the block that starts at an offset.
 fn lay(number: u32, message: &[u8], at: usize, out: &mut [u8]) -> Piece
     requires { (length message.now ≤ MESSAGE_MAX) × (at ≤ length message.now) }
-    ensures value { result ≡ Piece.Pdu (length (cut_pdu number message.now at))
+    ensures value { result ≡ piece_of (length (cut_pdu number message.now at))
         (block_end number (length message.now) at) }
     ensures out_after { out.new ≡ laid out.old 0 (cut_pdu number message.now at) }
 {
@@ -81,27 +80,32 @@ fn lay(number: u32, message: &[u8], at: usize, out: &mut [u8]) -> Piece
     let block = &message[at..next];
     if is_first(total, at) {
         let len = laying::data_first(out, number, total as u32, block);
-        return Piece::Pdu { len, next };
+        return Piece { len, next };
     }
     let len = laying::data(out, number, block);
-    Piece::Pdu { len, next }
+    Piece { len, next }
 }
 
 // Cuts the block that starts at the offset off the message, and writes its PDU.
-pub fn cut(number: u32, message: &[u8], offset: usize, out: &mut [u8]) -> Piece
+pub fn cut(
+    number: u32,
+    message: &[u8],
+    offset: usize,
+    out: &mut [u8],
+) -> Result<Piece, Refusal>
     ensures value { result ≡ cut_at number message.now offset out.old }
     ensures out_after { out.new ≡ cut_buffer number message.now offset out.old }
 {
     if out.len() < PDU_MAX {
-        return Piece::Refused(Refusal::BadCall);
+        return Err(Refusal::BadCall);
     }
     if MESSAGE_MAX < message.len() {
-        return Piece::Refused(Refusal::OverLimit);
+        return Err(Refusal::OverLimit);
     }
     if !is_start(number, message.len(), offset) {
-        return Piece::Refused(Refusal::NoStart);
+        return Err(Refusal::NoStart);
     }
-    lay(number, message, offset, out)
+    Ok(lay(number, message, offset, out))
 }
 
 // What one byte of a PDU's length counts in the number that C gets: more than any next offset.
@@ -113,9 +117,8 @@ pub extern "C" fn dvc_cut(number: u32, message: &[u8], offset: usize, out: &mut 
     ensures value { result ≡ packed (cut_at number message.now offset out.old) }
     ensures out_after { out.new ≡ cut_buffer number message.now offset out.old }
 {
-    let piece = cut(number, message, offset, out);
-    match piece {
-        Piece::Pdu { len, next } => len as u32 * LENGTH_UNIT + next as u32,
-        Piece::Refused(why) => paper::refusal_number(why) as u32,
+    match cut(number, message, offset, out) {
+        Ok(Piece { len, next }) => len as u32 * LENGTH_UNIT + next as u32,
+        Err(why) => paper::refusal_number(why) as u32,
     }
 }

@@ -2,7 +2,7 @@
 -- By induction on the calls of `cut`: before each the channel holds what the calls before it cut. The run may hold any events of other
 -- channels; it starts in any sound, ready state.
 -- Assumes nothing.
-use Rattle.std.specs.Prelude.{None, Some}
+use Rattle.std.specs.Prelude.{None, Some, Ok}
 use mathlib.Core.Path.{◌≡◌, refl, sym, ap, ◌∙◌}
 use mathlib.Core.Logic.{⊎_elim}
 use mathlib.Core.Bool.{Bool, true, false, not, cond}
@@ -33,9 +33,9 @@ use Rattle.channel.specs.Channel.{Bring, View, Open, Room, Did, rebuilt, stage_a
 use Rattle.connection.specs.States.{State, view, room_in, Steady}
 use Rattle.client.specs.Events.{Event, Unreadable, Capabilities, Of, is_of}
 use Rattle.client.specs.Client.{stepped}
-use Rattle.cutting.specs.Cutting.{is_first, is_start, block_len, block_end, block, cut_pdu, cut_at, cut_buffer}
+use Rattle.paper.specs.declared.Refusal.{Refusal}
+use Rattle.cutting.specs.Cutting.{is_first, is_start, block_len, block_end, block, cut_pdu, cut_at, cut_buffer, piece_of}
 use Rattle.cutting.specs.declared.Piece.{Piece}
-use Rattle.cutting.specs.declared.Piece.TheVariants.{Pdu}
 use Rattle.cutting.proofs.Answers.{given, at_start_law, unpacked_cut}
 use Rattle.cutting.proofs.Starts.{start_zero, start_next, start_within}
 use Rattle.cutting.proofs.Blocks.{end_is, end_from_law, end_within, end_after_law, length_block, cut_first, cut_data, cut_fits, whole_end, long_first, later_data}
@@ -355,7 +355,7 @@ module _ (n : ℕ) (m : List ℕ) (short : length m ≤ MESSAGE_MAX) (lent : ℕ
   go zero at fuel s = let w = start_within n (length m) at s in absurd (omega arith)
   go (suc more) at fuel s = by (ltb (block_end n (length m) at) (length m)) refl (λ f t. go more (block_end n (length m) at) f t)
     where
-      called : cut_at n m at (lent at) ≡ Pdu (length (cut_pdu n m at)) (block_end n (length m) at)
+      called : cut_at n m at (lent at) ≡ Ok (piece_of (length (cut_pdu n m at)) (block_end n (length m) at))
       called = sym (at_start_law n m at (lent at) (room at) short s).0
 
       by :

@@ -10,7 +10,6 @@ use Rattle.reading.specs.Strict.{read_strict, strict_rows}
 use Rattle.laying.specs.Laying.{buffer_after}
 use Rattle.writing.specs.Writing as writing
 use Rattle.cutting.specs.Cutting as cutting
-use Rattle.cutting.specs.declared.Piece.TheVariants.{Refused as NotCut}
 use Rattle.channel.specs.declared.Answer.TheVariants.{Refused}
 use Rattle.channel.specs.Channel.{LocalClose}
 use Rattle.table.specs.declared.Table.{Table}
@@ -92,4 +91,4 @@ pub record ARefusalLeavesAll : Type 0 where
       → buffer_after (writing.outcome (writing.written bad pdu out)) pdu out ≡ out
   pub cutting :
       (number : ℕ) (message : List ℕ) (offset : ℕ) (out : List ℕ) (why : Refusal)
-      → cutting.cut_at number message offset out ≡ NotCut why → cutting.cut_buffer number message offset out ≡ out
+      → cutting.cut_at number message offset out ≡ Err why → cutting.cut_buffer number message offset out ≡ out

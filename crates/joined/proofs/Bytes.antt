@@ -27,8 +27,7 @@ use Rattle.laying.proofs.Lengths.{length_create_response, length_close, length_c
 use Rattle.laying.proofs.Encoded.{create_response_encoded, close_encoded, caps_response_encoded, data_encoded, data_first_encoded}
 use Rattle.writing.specs.Writing.{bad_request, bad_capabilities, written, outcome}
 use Rattle.writing.proofs.SameValues.{caps_request_encodes, create_request_good, went}
-use Rattle.cutting.specs.Cutting.{is_first, block, cut_pdu, cut_at, cut_buffer}
-use Rattle.cutting.specs.declared.Piece.TheVariants.{Pdu as Piece-of}
+use Rattle.cutting.specs.Cutting.{is_first, block, cut_pdu, cut_at, cut_buffer, piece_of}
 use Rattle.cutting.proofs.Answers.{given}
 use Rattle.cutting.proofs.Blocks.{cut_first, cut_data, cut_fits}
 use Rattle.lists.proofs.Cases.{choice}
@@ -159,7 +158,7 @@ cut_data_is n m at small short = go (is_first (length m) at) refl
 
 -- one call
 cut_one :
-    (n : ℕ) (m : List ℕ) (at : ℕ) (out : List ℕ) (len next : ℕ) → n < NUMBERS → cut_at n m at out ≡ Piece-of len next
+    (n : ℕ) (m : List ℕ) (at : ℕ) (out : List ℕ) (len next : ℕ) → n < NUMBERS → cut_at n m at out ≡ Ok (piece_of len next)
     → HostData (take len (cut_buffer n m at out))
 cut_one n m at out len next small e = let g = given n m at out len next e in rw g.stands (cut_data_is n m at small g.short_enough)
 

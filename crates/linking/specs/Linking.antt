@@ -1,12 +1,12 @@
 -- Both ends in one process, "joined by two queues". "After each record every queued PDU is carried across, and what each end
 -- answers is printed." The shore's `receive` sends nothing, and what the panel sends for a PDU goes to the shore: so no queue
 -- is ever longer than one PDU, and what comes of a record is told call by call.
-use Rattle.std.specs.Prelude.{ℕ, zero, suc, ◌+◌, ◌-◌, ◌*◌, ◌≤◌, min, Bool, true, false, cond, ◌||◌, List, [], ◌++◌, ltb, eqb, length, take, drop, get_or, Some}
+use Rattle.std.specs.Prelude.{ℕ, zero, suc, ◌+◌, ◌-◌, ◌*◌, ◌≤◌, min, Bool, true, false, cond, ◌||◌, List, [], ◌++◌, ltb, eqb, length, take, drop, get_or, Some, Result, Ok, Err}
 use Rattle.paper.specs.Sizes.{STORE, PDU_MAX, REPLY_MIN}
 use Rattle.lists.specs.Bytes.{laid, zeros}
 use Rattle.numbers.specs.Numbers.{value_of}
+use Rattle.paper.specs.declared.Refusal.{Refusal}
 use Rattle.cutting.specs.declared.Piece.{Piece}
-use Rattle.cutting.specs.declared.Piece.TheVariants.{Pdu, Refused as NotCut}
 use Rattle.cutting.specs.Cutting.{cut_at, cut_buffer}
 use Rattle.table.specs.declared.Table.{Table}
 use Rattle.table.specs.Table.{empty_table}
@@ -139,10 +139,10 @@ pub record Sends : Type 0 where
 unfoldable pub unsent : End → ℕ → Said → List ℕ
 unsent from place said = end_field from ++ desk_line_of place said 0
 
-unfoldable pub sends_piece : End → List ℕ → ℕ → Both → ℕ → List ℕ → List ℕ → Piece → Sends
-sends_piece from list place b n message buffer (Pdu len next) =
-    record { goes = across from list place b (take len buffer); next = next }
-sends_piece from list place b n message buffer (NotCut why) =
+unfoldable pub sends_piece : End → List ℕ → ℕ → Both → ℕ → List ℕ → List ℕ → Result Piece Refusal → Sends
+sends_piece from list place b n message buffer (Ok piece) =
+    record { goes = across from list place b (take piece.len buffer); next = piece.next }
+sends_piece from list place b n message buffer (Err why) =
     record {
       goes = record { both = b; text = unsent from place (Refused why (Some n)) };
       next = length message;

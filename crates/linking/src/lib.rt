@@ -244,12 +244,12 @@ fn send_one(
 {
     let mut buffer = [0u8; PDU_MAX];
     match cutting::cut(number, message, at, &mut buffer) {
-        Piece::Pdu { len, next } => {
+        Ok(Piece { len, next }) => {
             let n = lists::lesser(len, PDU_MAX);
             let crossed = across(from, ends, store, list, &buffer[..n], place, out);
             Sent { crossed, next }
         }
-        Piece::Refused(why) => {
+        Err(why) => {
             let said = Said::Refused {
                 why,
                 concern: Some(number),

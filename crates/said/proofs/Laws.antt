@@ -1,6 +1,7 @@
 -- Why the program's rows and words are those of the definitions.
 -- Assumes nothing.
 use Rattle.std.specs.Prelude.{Result}
+use Rattle.paper.specs.declared.Refusal.{Refusal}
 use mathlib.Core.Path.{◌≡◌, refl, ap, ◌∙◌}
 use mathlib.Core.Bool.{Bool}
 use mathlib.Core.List.{List, [], ◌∷◌, ◌++◌, append_assoc, append-nil}

@@ -2,6 +2,7 @@
 -- on receive: "1, then reading, then 7, 6, 9, 8, 13, 10, 11, 12, the first that holds". The rows of reading are
 -- `reading_rows`, from the table of kinds. proofs/Refusals shows that the steps give exactly these.
 use Rattle.std.specs.Prelude.{ℕ, ◌-◌, Bool, true, false, not, List, [], ◌∷◌, ◌++◌, ltb, eqb, length, Result, Err, Ok}
+use Rattle.paper.specs.declared.Refusal.{Refusal}
 use Rattle.paper.specs.Sizes.{PARTS, STORE, MESSAGE_MAX}
 use Rattle.paper.specs.Refusals.{refusal_number}
 use Rattle.paper.specs.Rows.{Verdict, fine, refused_with, Row, row, Outcome, done, refusal}

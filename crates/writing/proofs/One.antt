@@ -2,6 +2,7 @@
 -- `Reads.Post` is the contract as the source states it, read as plain facts.
 -- Assumes nothing.
 use Rattle.std.specs.Prelude.{Result}
+use Rattle.paper.specs.declared.Refusal.{Refusal}
 use mathlib.Core.Path.{◌≡◌, sym, ◌∙◌}
 use mathlib.Core.List.{List}
 use Prim.Native.Nat.{ℕ}

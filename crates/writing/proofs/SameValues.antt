@@ -2,6 +2,7 @@
 -- the narrowest encoding of its values, which both readings answer.
 -- Assumes nothing.
 use Rattle.std.specs.Prelude.{Result, Err, Ok}
+use Rattle.paper.specs.declared.Refusal.{Refusal}
 use mathlib.Core.Path.{◌≡◌, refl, sym, ap, ◌∙◌}
 use mathlib.Core.Bool.{Bool, true, false, cond, not}
 use mathlib.Core.List.{List}

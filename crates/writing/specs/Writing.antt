@@ -1,5 +1,6 @@
 -- What writing answers and leaves in the buffer. "Writing: 1, 5, 11."
 use Rattle.std.specs.Prelude.{ℕ, Bool, cond, not, ◌&&◌, ◌||◌, List, [], ◌∷◌, ltb, eqb, length, Result, Err, Ok}
+use Rattle.paper.specs.declared.Refusal.{Refusal}
 use Rattle.paper.specs.Sizes.{PDU_MAX}
 use Rattle.paper.specs.Refusals.{refusal_number}
 use Rattle.paper.specs.Rows.{refuse, Row, row, Outcome, done, refusal}

@@ -4,7 +4,7 @@ use Rattle.client.specs.declared.Started.{Started}
 use Rattle.saved.specs.Saved.{STATE, CLIENT, saved}
 use Rattle.saved.proofs.Putting.{begin_over_law}
 use Rattle.client_face.specs.Face.{dvc_started}
-use Rattle.client_face.proofs.Calls.{is_done, begins_other, begins_refused, begins_done, store_left, started_empty}
+use Rattle.client_face.proofs.Calls.{is_ok, begins_other, begins_refused, begins_done, store_left, started_empty}
 use Rattle.client_face.proofs.dvc_start.Goals as goal
 
 pub returns-then-state-ne-STATE : goal.returns-then-state-ne-STATE
@@ -20,7 +20,7 @@ returns-in-Ok c =
     let state = a.state.now in
     let store = a.store.now in
     let begun = ap (λ (x : Started). x.begun) c.start-started.ensures.value in
-    let done = ap is_done c.in-Ok.is in
+    let done = ap is_ok c.in-Ok.is in
     let empty = begin_over_law CLIENT state c.if-state-ne-STATE.false ∙ ap (saved CLIENT 0) (sym (started_empty store)) in
     rw (begins_done CLIENT _ state store c.start-started.result.begun c.if-state-ne-STATE.false begun done)
     (record { value = refl; state_after = c.begin.ensures ∙ empty; store_after = c.start-started.ensures.store_after })
@@ -32,6 +32,6 @@ returns-in-Err c =
     let state = a.state.now in
     let store = a.store.now in
     let begun = ap (λ (x : Started). x.begun) c.start-started.ensures.value in
-    let not_done = ap is_done c.in-Err.is in
+    let not_done = ap is_ok c.in-Err.is in
     rw (begins_refused CLIENT _ state store c.start-started.result.begun begun not_done)
     (record { value = refl; state_after = refl; store_after = c.start-started.ensures.store_after ∙ store_left store c.start-started.result.begun begun not_done })
