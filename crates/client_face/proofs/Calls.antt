@@ -1,6 +1,6 @@
 -- A call on bytes: refusal 1 in front of it leaves every byte, and behind it the step is given.
 -- Assumes nothing.
-use Rattle.std.specs.Prelude.{Result, Err, Ok}
+use Rattle.std.specs.Prelude.{Result, Err, Ok, is_ok}
 use Rattle.paper.specs.declared.Refusal.{Refusal}
 use mathlib.Core.Path.{◌≡◌, refl, sym, ap, ◌∙◌}
 use mathlib.Core.Bool.{Bool, true, false, not, cond, ◌&&◌, ◌||◌}
@@ -219,11 +219,6 @@ pub face_is :
 face_is f g r stateAfter storeAfter replyAfter e h = rw e h
 
 -- ---- Start
-
--- whether the library's Start did its work
-abbrev pub is_ok : Result (Unit {0}) Refusal → Bool
-is_ok (Ok tt) = true
-is_ok (Err why) = false
 
 begun_is : (store : List ℕ) → is_ok (started store).begun ≡ eqb (length store) STORE
 unfolding started

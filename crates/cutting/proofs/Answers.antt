@@ -1,7 +1,7 @@
 -- The laws of the answer: when it is given, how large its numbers are, and that its packed form says it all.
 -- Assumes nothing.
 use Rattle.std.specs.Prelude.{Result, Ok, Err}
-use mathlib.Core.Path.{◌≡◌, refl, ap, ◌∙◌}
+use mathlib.Core.Path.{◌≡◌, refl, sym, ap, ◌∙◌}
 use mathlib.Core.Bool.{Bool, cond, true, false, not}
 use mathlib.Core.List.{List}
 use Prim.Native.Nat.{ℕ, ◌+◌, ◌*◌, ◌/◌, ◌%◌, ◌≤◌, ◌<◌}
@@ -100,8 +100,9 @@ module _ (number : ℕ) (message : List ℕ) (offset : ℕ) (out : List ℕ) whe
       go false false true p q w h =
           let roomy = ltb-false (length out) PDU_MAX p in
           let short = ltb-false MESSAGE_MAX (length message) q in
-          let l : len ≡ length (cut_pdu number message offset) = cc in
-          let n : next ≡ block_end number (length message) offset = cc in
+          let e : piece_of (length (cut_pdu number message offset)) (block_end number (length message) offset) ≡ piece_of len next = cc in
+          let l : len ≡ length (cut_pdu number message offset) = sym (ap (λ (piece : Piece). piece.len) e) in
+          let n : next ≡ block_end number (length message) offset = sym (ap (λ (piece : Piece). piece.next) e) in
           let pdu = cut_pdu number message offset in
           let fits = cut_fits number message offset in
           record {

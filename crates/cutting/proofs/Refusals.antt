@@ -12,7 +12,7 @@ use Rattle.paper.specs.Rows.{fine, refused_with, first_held, comes_to}
 use Rattle.paper.specs.declared.Refusal.{Refusal}
 use Rattle.paper.specs.declared.Refusal.TheVariants.{BadCall, OverLimit, NoStart}
 use Rattle.laying.specs.Laying.{buffer_after}
-use Rattle.cutting.specs.Cutting.{block_end, is_start, cut_pdu, cut_at, cut_buffer, lengths_at, outcome, cutting_rows}
+use Rattle.cutting.specs.Cutting.{block_end, is_start, cut_pdu, cut_at, cut_buffer, lengths_at, outcome, cutting_rows, piece_of}
 use Rattle.cutting.specs.declared.Piece.{Piece}
 
 module _ (number : ℕ) (message : List ℕ) (offset : ℕ) (out : List ℕ) where

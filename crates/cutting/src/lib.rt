@@ -118,7 +118,7 @@ pub extern "C" fn dvc_cut(number: u32, message: &[u8], offset: usize, out: &mut 
     ensures out_after { out.new ≡ cut_buffer number message.now offset out.old }
 {
     match cut(number, message, offset, out) {
-        Ok(Piece { len, next }) => len as u32 * LENGTH_UNIT + next as u32,
+        Ok(piece) => piece.len as u32 * LENGTH_UNIT + piece.next as u32,
         Err(why) => paper::refusal_number(why) as u32,
     }
 }

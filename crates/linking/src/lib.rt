@@ -14,7 +14,6 @@ ghost use Rattle.linking.specs.Linking.{shore_hosts, across, unsent, sends_one, 
 ghost use Rattle.linking.specs.Linking.{new_ends, both_started, dropped, is_host, no_record, link_step, STEP_MAX, Crosses};
 
 use client::Received;
-use cutting::Piece;
 use paper::{PDU_MAX, REPLY_MIN, STORE};
 use records::{
     AT_SHORE, CLOSE, DROPS, FROM_PANEL, FROM_SHORE, LEAD, MESSAGE_HEAD, OPEN, PANEL_CLOSE, REQUEST,
@@ -244,10 +243,13 @@ fn send_one(
 {
     let mut buffer = [0u8; PDU_MAX];
     match cutting::cut(number, message, at, &mut buffer) {
-        Ok(Piece { len, next }) => {
-            let n = lists::lesser(len, PDU_MAX);
+        Ok(piece) => {
+            let n = lists::lesser(piece.len, PDU_MAX);
             let crossed = across(from, ends, store, list, &buffer[..n], place, out);
-            Sent { crossed, next }
+            Sent {
+                crossed,
+                next: piece.next,
+            }
         }
         Err(why) => {
             let said = Said::Refused {

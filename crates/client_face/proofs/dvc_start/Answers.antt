@@ -4,7 +4,8 @@ use Rattle.client.specs.declared.Started.{Started}
 use Rattle.saved.specs.Saved.{STATE, CLIENT, saved}
 use Rattle.saved.proofs.Putting.{begin_over_law}
 use Rattle.client_face.specs.Face.{dvc_started}
-use Rattle.client_face.proofs.Calls.{is_ok, begins_other, begins_refused, begins_done, store_left, started_empty}
+use Rattle.std.specs.Prelude.{is_ok}
+use Rattle.client_face.proofs.Calls.{begins_other, begins_refused, begins_done, store_left, started_empty}
 use Rattle.client_face.proofs.dvc_start.Goals as goal
 
 pub returns-then-state-ne-STATE : goal.returns-then-state-ne-STATE

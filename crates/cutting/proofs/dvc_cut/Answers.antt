@@ -10,8 +10,8 @@ use Rattle.cutting.proofs.dvc_cut.Goals as goal
 pub overflow_cast-result : goal.overflow_cast-result
 unfolding PDU_MAX MESSAGE_MAX
 overflow_cast-result c =
-    let sizes : (2 ≤ c.in-Ok.len)
-    × ((c.in-Ok.len ≤ PDU_MAX) × (c.in-Ok.next ≤ MESSAGE_MAX)) = let a = c.args in
+    let sizes : (2 ≤ c.in-Ok.piece.len)
+    × ((c.in-Ok.piece.len ≤ PDU_MAX) × (c.in-Ok.piece.next ≤ MESSAGE_MAX)) = let a = c.args in
     subst Possible (sym c.cut.ensures.value ∙ c.in-Ok.is)
     (possible a.number a.message.now a.offset a.out.now) in
     omega (arith, sizes)
@@ -19,8 +19,8 @@ overflow_cast-result c =
 pub overflow_mul-result : goal.overflow_mul-result
 unfolding PDU_MAX MESSAGE_MAX
 overflow_mul-result c =
-    let sizes : (2 ≤ c.in-Ok.len)
-    × ((c.in-Ok.len ≤ PDU_MAX) × (c.in-Ok.next ≤ MESSAGE_MAX)) = let a = c.args in
+    let sizes : (2 ≤ c.in-Ok.piece.len)
+    × ((c.in-Ok.piece.len ≤ PDU_MAX) × (c.in-Ok.piece.next ≤ MESSAGE_MAX)) = let a = c.args in
     subst Possible (sym c.cut.ensures.value ∙ c.in-Ok.is)
     (possible a.number a.message.now a.offset a.out.now) in
     omega (arith, sizes)
@@ -28,8 +28,8 @@ overflow_mul-result c =
 pub overflow_cast-result-in-Ok : goal.overflow_cast-result-in-Ok
 unfolding PDU_MAX MESSAGE_MAX
 overflow_cast-result-in-Ok c =
-    let sizes : (2 ≤ c.in-Ok.len)
-    × ((c.in-Ok.len ≤ PDU_MAX) × (c.in-Ok.next ≤ MESSAGE_MAX)) = let a = c.args in
+    let sizes : (2 ≤ c.in-Ok.piece.len)
+    × ((c.in-Ok.piece.len ≤ PDU_MAX) × (c.in-Ok.piece.next ≤ MESSAGE_MAX)) = let a = c.args in
     subst Possible (sym c.cut.ensures.value ∙ c.in-Ok.is)
     (possible a.number a.message.now a.offset a.out.now) in
     omega (arith, sizes)
@@ -37,8 +37,8 @@ overflow_cast-result-in-Ok c =
 pub overflow_add-result : goal.overflow_add-result
 unfolding PDU_MAX MESSAGE_MAX
 overflow_add-result c =
-    let sizes : (2 ≤ c.in-Ok.len)
-    × ((c.in-Ok.len ≤ PDU_MAX) × (c.in-Ok.next ≤ MESSAGE_MAX)) = let a = c.args in
+    let sizes : (2 ≤ c.in-Ok.piece.len)
+    × ((c.in-Ok.piece.len ≤ PDU_MAX) × (c.in-Ok.piece.next ≤ MESSAGE_MAX)) = let a = c.args in
     subst Possible (sym c.cut.ensures.value ∙ c.in-Ok.is)
     (possible a.number a.message.now a.offset a.out.now) in
     omega (arith, sizes)
