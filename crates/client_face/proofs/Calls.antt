@@ -224,7 +224,7 @@ begun_is : (store : List ℕ) → is_ok (started store).begun ≡ eqb (length st
 unfolding started
 begun_is store = go (eqb (length store) STORE)
   where
-    go : (b : Bool) → is_ok (cond b (Ok tt) (Err BadCall)) ≡ b
+    go : (b : Bool) → is_ok {T = Unit {0}} {E = Refusal} (cond b (Ok tt) (Err BadCall)) ≡ b
     go true = refl
     go false = refl
 
