@@ -42,16 +42,17 @@ pub struct Received {
     pub place: usize,
 }
 
-// What a call asks: of the channel with the number, if of any, what, and where in the PDU the block lies.
+// What a call asks: of the channel with the number, if of any, what, and where in the PDU the block lies. What can be asked is
+// each end's own.
 #[derive(Clone, Copy)]
-pub struct Asked {
+pub struct Asked<M> {
     pub number: u32,
-    pub matter: Matter,
+    pub matter: M,
     pub block: Extent,
 }
 
 // What is asked with no block.
-fn bare(number: u32, matter: Matter) -> Asked
+pub fn bare<M>(number: u32, matter: M) -> Asked<M>
     ensures { result ≡ record { number = number; matter = matter; block = nowhere } }
 {
     let block = Extent { at: 0, len: 0 };
@@ -76,7 +77,7 @@ fn create_ask(list: &[u8], name: &[u8], pri: u8) -> Ask
 }
 
 // What a PDU asks that reading refuses, by the number that it carries.
-fn unread(pdu: &[u8], why: Refusal) -> Asked
+fn unread(pdu: &[u8], why: Refusal) -> Asked<Matter>
     ensures { result ≡ unread_ask why (carries pdu.now) }
 {
     match reading::carries(pdu) {
@@ -87,7 +88,7 @@ fn unread(pdu: &[u8], why: Refusal) -> Asked
 
 // What a PDU from the server asks, with the names that the host listens for. Responses are never read in a PDU from the
 // server.
-pub fn heard(list: &[u8], pdu: &[u8]) -> Asked
+pub fn heard(list: &[u8], pdu: &[u8]) -> Asked<Matter>
     ensures { result ≡ heard_in list.now pdu.now (read_pdu true pdu.now) }
 {
     match reading::read(pdu, true) {
@@ -100,11 +101,7 @@ pub fn heard(list: &[u8], pdu: &[u8]) -> Asked
             number,
             class,
             name,
-        } => {
-            let at = name.at;
-            let end = at + name.len;
-            bare(number, Matter::Asks(create_ask(list, &pdu[at..end], class)))
-        }
+        } => bare(number, Matter::Asks(create_ask(list, name.of(pdu), class))),
         Pdu::DataFirst {
             number,
             length,
@@ -141,7 +138,7 @@ pub fn heard(list: &[u8], pdu: &[u8]) -> Asked
 }
 
 // What a close by the host asks.
-pub fn closing(number: u32) -> Asked
+pub fn closing(number: u32) -> Asked<Matter>
     ensures { result ≡ closing_of number }
 {
     bare(number, Matter::Asks(Ask::End { local: true }))
@@ -260,7 +257,13 @@ pub fn start(store: &mut [u8]) -> Started
 
 // A call: refusal 1, and behind it what is asked. The block is the bytes of the PDU at its place, as far as there are any.
 // `receive` and `local_close` are faces of this one. A program is quickest that calls it, from one place.
-pub fn step(table: Table, store: &mut [u8], asked: Asked, pdu: &[u8], reply: &mut [u8]) -> Received
+pub fn step(
+    table: Table,
+    store: &mut [u8],
+    asked: Asked<Matter>,
+    pdu: &[u8],
+    reply: &mut [u8],
+) -> Received
     ensures value { result ≡ (called table store.old
         (event_asked asked pdu.now) reply.old).result }
     ensures store_after { store.new ≡ (called table store.old
@@ -271,11 +274,14 @@ pub fn step(table: Table, store: &mut [u8], asked: Asked, pdu: &[u8], reply: &mu
     if bad_call(table, store.len(), reply.len()) {
         return refused(table);
     }
-    let matter = asked.matter;
-    let block = asked.block;
-    let at = lists::lesser(block.at, pdu.len());
-    let end = at + lists::lesser(block.len, pdu.len() - at);
-    taken(table, store, asked.number, matter, &pdu[at..end], reply)
+    taken(
+        table,
+        store,
+        asked.number,
+        asked.matter,
+        asked.block.of(pdu),
+        reply,
+    )
 }
 
 // A PDU from the server, with the names that the host listens for. The reply goes to the reply buffer.

@@ -22,7 +22,7 @@ use deciding::Matter;
 use paper::{PARTS, Refusal};
 
 // What the host asks: what a PDU asks, or a close of the number.
-fn asked(heard: bool, list: &[u8], pdu: &[u8], number: u32) -> Asked
+fn asked(heard: bool, list: &[u8], pdu: &[u8], number: u32) -> Asked<Matter>
     ensures { result ≡ asked_by heard list.now pdu.now number }
 {
     if heard {
@@ -115,11 +115,14 @@ fn call(
         return refused();
     }
     let asked = asked(heard, list, pdu, number);
-    let matter = asked.matter;
-    let block = asked.block;
-    let at = lists::lesser(block.at, pdu.len());
-    let end = at + lists::lesser(block.len, pdu.len() - at);
-    taken(state, store, asked.number, matter, &pdu[at..end], reply)
+    taken(
+        state,
+        store,
+        asked.number,
+        asked.matter,
+        asked.block.of(pdu),
+        reply,
+    )
 }
 
 // Zeroes the store and makes an empty table of the state: 0, or 1 where one of them is not of its size, and then nothing is

@@ -42,10 +42,7 @@ fn refuses(ready: bool, level: u8, why: Refusal) -> Decided
 fn level_for(version: u16) -> u8
     ensures { result ≡ level_for version }
 {
-    if version < OUR_VERSION {
-        return version as u8;
-    }
-    OUR_VERSION as u8
+    version.min(OUR_VERSION) as u8
 }
 
 // A Capabilities request makes the connection ready.

@@ -48,7 +48,7 @@ use Rattle.shore.specs.declared.Said.TheVariants.{Asked, Ready, Awaited, Opened,
 use Rattle.shore.specs.declared.Shore.{Shore}
 use Rattle.shore.specs.declared.Given.{Given}
 use Rattle.shore.specs.declared.Sending.{Sending}
-use Rattle.shore.specs.declared.Heard.{Heard}
+use Rattle.client.specs.declared.Asked.{Asked as Call}
 use Rattle.shore.specs.declared.Matter.{Matter}
 use Rattle.shore.specs.declared.Matter.TheVariants.{Unread, Caps, Status, Block, End}
 use Rattle.shore.specs.declared.Decided.{Decided}
@@ -231,7 +231,7 @@ module _ (s : Shore) (store : List ℕ) (long : length s.table.records ≡ PARTS
       })
 
   call_fits :
-      (a : Heard) (pdu : List ℕ) (event : Event) (reply : List ℕ) → event_asked a pdu ≡ event → a.number < NUMBERS
+      (a : Call Matter) (pdu : List ℕ) (event : Event) (reply : List ℕ) → event_asked a pdu ≡ event → a.number < NUMBERS
       → length (bytes_at pdu a.block) < 8192 → GivenFits (called s store event reply).result
   unfolding whole_of event_asked
   call_fits a pdu event reply e h l = go (bad_call s.table (length store) (length reply)) refl
@@ -245,7 +245,7 @@ module _ (s : Shore) (store : List ℕ) (long : length s.table.records ≡ PARTS
 
 -- ---- what a PDU asks
 
-abbrev HeardSmall : List ℕ → Heard → Type 0
+abbrev HeardSmall : List ℕ → Call Matter → Type 0
 HeardSmall pdu a = (a.number < NUMBERS) × (length (bytes_at pdu a.block) < 8192)
 
 unread_small : (pdu : List ℕ) (why : Refusal) (carried : Option ℕ) → CarriesSmall carried → HeardSmall pdu (unread_heard why carried)

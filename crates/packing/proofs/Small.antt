@@ -292,7 +292,7 @@ module _ (t : Table) (store : List ℕ) (long : length t.records ≡ PARTS) wher
       })
 
   call_fits :
-      (a : Asked) (pdu : List ℕ) (event : Event) (reply : List ℕ) → event_asked a pdu ≡ event → a.number < NUMBERS
+      (a : Asked Matter) (pdu : List ℕ) (event : Event) (reply : List ℕ) → event_asked a pdu ≡ event → a.number < NUMBERS
       → length (bytes_at pdu a.block) < 8192 → Fits (called t store event reply).result
   unfolding whole_of event_asked
   call_fits a pdu event reply e h l = go (bad_call t (length store) (length reply)) refl
@@ -306,7 +306,7 @@ module _ (t : Table) (store : List ℕ) (long : length t.records ≡ PARTS) wher
 
 -- ---- what a PDU asks
 
-abbrev AskedSmall : List ℕ → Asked → Type 0
+abbrev AskedSmall : List ℕ → Asked Matter → Type 0
 AskedSmall pdu a = (a.number < NUMBERS) × (length (bytes_at pdu a.block) < 8192)
 
 unread_small : (pdu : List ℕ) (why : Refusal) (carried : Option ℕ) → CarriesSmall carried → AskedSmall pdu (unread_ask why carried)

@@ -15,7 +15,7 @@ ghost use Rattle.reading.specs.Reading.{create_request, create_response, data_fi
 ghost use Rattle.reading.specs.Reading.{capabilities, by_version, charged};
 ghost use Rattle.reading.specs.declared.Pdu.TheVariants.{Refused};
 ghost use Rattle.reading.specs.Garbled.{brings_block, whole_in, carries};
-ghost use Rattle.reading.specs.Said.{verdict_on};
+ghost use Rattle.reading.specs.Said.{bytes_at, verdict_on};
 ghost use Rattle.reading.specs.Strict.{read_strict, strict_verdict, loose_by, loose_numbered, loose_after, loose, strictly, judged};
 
 use numbers::Measured;
@@ -29,6 +29,17 @@ use paper::{
 pub struct Extent {
     pub at: usize,
     pub len: usize,
+}
+
+impl Extent {
+    // The bytes there, as far as the PDU has any.
+    pub fn of(self, pdu: &[u8]) -> &[u8]
+        ensures { result.now ≡ bytes_at pdu.now self }
+    {
+        let at = self.at.min(pdu.len());
+        let len = self.len.min(pdu.len() - at);
+        &pdu[at..at + len]
+    }
 }
 
 // The priority charges. The channels of class k use charge k.

@@ -26,6 +26,7 @@ ghost use Rattle.shore.specs.Asking.{nowhere, unread_heard, heard_in, closing_of
 ghost use Rattle.shore.specs.Deciding.{saying, responding, settling, seen_row, as_common, decided_of};
 
 use channel::{Answer, Ask, Change, Offer, Part, Record, Reply, Stage};
+use client::{Asked, bare};
 use paper::{PARTS, PDU_MAX, Refusal};
 use reading::{Charges, Extent, Pdu};
 use table::Table;
@@ -100,14 +101,6 @@ pub enum Matter {
     End { local: bool },
 }
 
-// What a PDU asks: of the number, if of any, what, and where in the PDU the block lies.
-#[derive(Clone, Copy)]
-pub struct Heard {
-    pub number: u32,
-    pub matter: Matter,
-    pub block: Extent,
-}
-
 // What a matter comes to.
 #[derive(Clone, Copy)]
 pub struct Decided {
@@ -173,20 +166,8 @@ fn said_as(answer: Answer) -> Said
 
 // ---- what a PDU asks
 
-// What is asked with no block.
-fn bare(number: u32, matter: Matter) -> Heard
-    ensures { result ≡ record { number = number; matter = matter; block = nowhere } }
-{
-    let block = Extent { at: 0, len: 0 };
-    Heard {
-        number,
-        matter,
-        block,
-    }
-}
-
 // What a PDU asks that reading refuses, by the number that it carries.
-fn unread(pdu: &[u8], why: Refusal) -> Heard
+fn unread(pdu: &[u8], why: Refusal) -> Asked<Matter>
     ensures { result ≡ unread_heard why (carries pdu.now) }
 {
     match reading::carries(pdu) {
@@ -196,7 +177,7 @@ fn unread(pdu: &[u8], why: Refusal) -> Heard
 }
 
 // A kind that is never read in a PDU from the client.
-fn wrong_way() -> Heard
+fn wrong_way() -> Asked<Matter>
     ensures { result ≡ record { number = 0; matter = Matter.Unread Refusal.WrongTime false; block = nowhere } }
 {
     bare(
@@ -209,7 +190,7 @@ fn wrong_way() -> Heard
 }
 
 // What a PDU from the client asks. Requests are never read in one.
-pub fn hear(pdu: &[u8]) -> Heard
+pub fn hear(pdu: &[u8]) -> Asked<Matter>
     ensures { result ≡ heard_in pdu.now (read_pdu false pdu.now) }
 {
     match reading::read(pdu, false) {
@@ -220,12 +201,12 @@ pub fn hear(pdu: &[u8]) -> Heard
             number,
             length,
             block,
-        } => Heard {
+        } => Asked {
             number,
             matter: Matter::Block(Offer::First(length)),
             block,
         },
-        Pdu::Data { number, block } => Heard {
+        Pdu::Data { number, block } => Asked {
             number,
             matter: Matter::Block(Offer::More),
             block,
@@ -244,7 +225,7 @@ pub fn hear(pdu: &[u8]) -> Heard
 }
 
 // What a close by the host asks.
-pub fn closing(number: u32) -> Heard
+pub fn closing(number: u32) -> Asked<Matter>
     ensures { result ≡ closing_of number }
 {
     bare(number, Matter::End { local: true })
@@ -284,16 +265,7 @@ fn too_soon(ready: bool, level: u8) -> Decided
 fn level_between(asked: u16, version: u16) -> u8
     ensures { result ≡ level_between asked version }
 {
-    if asked < version {
-        if asked < channel::OUR_VERSION {
-            return asked as u8;
-        }
-        return channel::OUR_VERSION as u8;
-    }
-    if version < channel::OUR_VERSION {
-        return version as u8;
-    }
-    channel::OUR_VERSION as u8
+    asked.min(version).min(channel::OUR_VERSION) as u8
 }
 
 // A Capabilities response makes the connection ready, if it was asked for.
@@ -534,7 +506,7 @@ fn refused(shore: Shore) -> Given
 }
 
 // A call: refusal 1, and behind it what is asked.
-fn step(shore: Shore, store: &mut [u8], heard: Heard, pdu: &[u8], reply: &mut [u8]) -> Given
+fn step(shore: Shore, store: &mut [u8], heard: Asked<Matter>, pdu: &[u8], reply: &mut [u8]) -> Given
     ensures value { result ≡ (called shore store.old
         (event_asked heard pdu.now) reply.old).result }
     ensures store_after { store.new ≡ (called shore store.old
@@ -545,11 +517,14 @@ fn step(shore: Shore, store: &mut [u8], heard: Heard, pdu: &[u8], reply: &mut [u
     if client::bad_call(shore.table, store.len(), reply.len()) {
         return refused(shore);
     }
-    let matter = heard.matter;
-    let block = heard.block;
-    let at = lists::lesser(block.at, pdu.len());
-    let end = at + lists::lesser(block.len, pdu.len() - at);
-    taken(shore, store, heard.number, matter, &pdu[at..end], reply)
+    taken(
+        shore,
+        store,
+        heard.number,
+        heard.matter,
+        heard.block.of(pdu),
+        reply,
+    )
 }
 
 // Zeroes the store and gives the empty table. A store of another size is left as it is.
@@ -641,14 +616,12 @@ pub fn request(shore: Shore, version: u16, charges: Charges, out: &mut [u8]) -> 
 fn least_number(table: Table) -> u32
     ensures { result ≡ least_number table }
 {
-    let mut number = 1;
-    while number <= PARTS as u32 {
+    for number in 1..PARTS as u32 + 1 {
         if PARTS <= table::find_number(table, number).place {
             return number;
         }
-        number += 1;
     }
-    number
+    PARTS as u32 + 1
 }
 
 // The record that a number has from the local open on.

@@ -17,12 +17,13 @@ ghost use Rattle.shore_face.specs.Face.{shore_in, dvc_shore_received, dvc_shore_
 ghost use Rattle.shore_face.specs.Face.{asked_by, bad_face, bad_out_face, Gives, faces};
 
 use channel::Change;
+use client::Asked;
 use paper::{PARTS, PDU_MAX, Refusal};
 use reading::Charges;
-use shore::{Heard, Matter, Said};
+use shore::{Matter, Said};
 
 // What the host asks: what a PDU asks, or a close of the number.
-fn asked(heard: bool, pdu: &[u8], number: u32) -> Heard
+fn asked(heard: bool, pdu: &[u8], number: u32) -> Asked<Matter>
     ensures { result ≡ asked_by heard pdu.now number }
 {
     if heard {
@@ -129,11 +130,14 @@ fn call(
         return refused();
     }
     let asked = asked(heard, pdu, number);
-    let matter = asked.matter;
-    let block = asked.block;
-    let at = lists::lesser(block.at, pdu.len());
-    let end = at + lists::lesser(block.len, pdu.len() - at);
-    taken(state, store, asked.number, matter, &pdu[at..end], reply)
+    taken(
+        state,
+        store,
+        asked.number,
+        asked.matter,
+        asked.block.of(pdu),
+        reply,
+    )
 }
 
 // Zeroes the store and makes an empty table of the state: 0, or 1 where one of them is not of its size, and then nothing is
@@ -233,15 +237,12 @@ fn least_number(state: &[u8]) -> u32
     requires { length state.now ≡ STATE }
     ensures { result ≡ least_number (table_in state.now) }
 {
-    let mut number = 1;
-    while number <= PARTS as u32 {
-        let row = saved::find(state, number).row;
-        if !row.taken {
+    for number in 1..PARTS as u32 + 1 {
+        if !saved::find(state, number).row.taken {
             return number;
         }
-        number += 1;
     }
-    number
+    PARTS as u32 + 1
 }
 
 // The host opens a channel by its listener's name and a class. The Create request goes to the buffer of a written PDU.
