@@ -11,7 +11,6 @@ ghost use Rattle.paper.specs.Sizes.{PARTS, STORE};
 ghost use Rattle.lists.specs.Bytes.{laid};
 ghost use Rattle.reading.specs.Reading.{read_pdu};
 ghost use Rattle.reading.specs.Garbled.{carries};
-ghost use Rattle.channel.specs.Answers.{concern_of};
 ghost use Rattle.channel.specs.Turns.{reply_told};
 ghost use Rattle.table.specs.Sound.{sound_table};
 ghost use Rattle.connection.specs.States.{state_of};
@@ -157,11 +156,11 @@ pub fn lay(reply: &mut [u8], number: u32, what: Reply) -> usize
     }
 }
 
-// The place, if the answer concerns a channel.
-fn place_for(answer: Answer, place: usize) -> usize
-    ensures { result ≡ place_if (concern_of answer) place }
+// The place, if an answer concerns a channel.
+pub fn place_if(concern: Option<u32>, place: usize) -> usize
+    ensures { result ≡ place_if concern place }
 {
-    match channel::concerns(answer) {
+    match concern {
         None => PARTS,
         Some(_) => place,
     }
@@ -205,7 +204,10 @@ fn taken(
         table: next,
         answer,
         sent,
-        place: place_for(answer, connection::place_after(k, row.taken, change)),
+        place: place_if(
+            channel::concerns(answer),
+            connection::place_after(k, row.taken, change),
+        ),
     }
 }
 

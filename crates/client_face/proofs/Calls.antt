@@ -39,7 +39,7 @@ use Rattle.saved.specs.Saved.{STATE, CLIENT, saved, table_in, asked_in, unasked,
 use Rattle.saved.proofs.Back.{told_saved}
 use Rattle.packing.specs.Packing.{answer_place, packed_answer, packed_for}
 use Rattle.packing.proofs.Own.{own, decided_own, decided_place}
-use Rattle.client_face.specs.Face.{Faced, no_state, faced, dvc_received, dvc_closed, asked_by, bad_face, Gives, faces, begins}
+use Rattle.client_face.specs.Face.{Faced, no_state, faced, dvc_received, dvc_closed, bad_face, Gives, faces, begins}
 
 -- ---- bytes that are a state of the client
 
@@ -202,13 +202,13 @@ gives_packed s r l reply storeAfter replyAfter g p e f =
 -- ---- the two calls
 
 pub receives_face :
-    (l store list pdu reply : List ℕ) → dvc_received l store list pdu reply ≡ faces l store (event_asked (asked_by true list pdu 0) pdu) reply
-unfolding dvc_received faces received asked_by
+    (l store list pdu reply : List ℕ) → dvc_received l store list pdu reply ≡ faces l store (event_asked (heard_in list pdu (read_pdu true pdu)) pdu) reply
+unfolding dvc_received faces received
 receives_face l store list pdu reply = rw (event_asked_law list pdu (read_pdu true pdu))
 
 pub closes_face :
-    (l store : List ℕ) (n : ℕ) (reply : List ℕ) → dvc_closed l store n reply ≡ faces l store (event_asked (asked_by false [] [] n) []) reply
-unfolding dvc_closed faces locally_closed asked_by
+    (l store : List ℕ) (n : ℕ) (reply : List ℕ) → dvc_closed l store n reply ≡ faces l store (event_asked (closing_of n) []) reply
+unfolding dvc_closed faces locally_closed
 closes_face l store n reply = rw event_closing
 
 -- a call is what its name says

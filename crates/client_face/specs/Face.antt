@@ -7,8 +7,6 @@ use Rattle.reading.specs.Reading.{read_pdu}
 use Rattle.channel.specs.declared.Answer.TheVariants.{Refused}
 use Rattle.channel.specs.Answers.{concern_of}
 use Rattle.table.specs.declared.Table.{Table}
-use Rattle.deciding.specs.declared.Matter.{Matter}
-use Rattle.client.specs.declared.Asked.{Asked}
 use Rattle.client.specs.Events.{Event}
 use Rattle.client.specs.Asking.{heard_in, closing_of}
 use Rattle.client.specs.Client.{Stepped, Whole, place_for, called, received, locally_closed, started, store_started}
@@ -62,10 +60,6 @@ unfoldable pub dvc_started : List ℕ → List ℕ → Begins
 dvc_started state store = begins CLIENT (started store).table state store
 
 -- ---- the same, as the code has it. Nobody need believe what follows: proofs/Calls shows that it is so.
-
--- what the host asks: what a PDU asks, or a close of the number
-unfoldable pub asked_by : Bool → List ℕ → List ℕ → ℕ → Asked Matter
-asked_by heard list pdu n = cond heard (heard_in list pdu (read_pdu true pdu)) (closing_of n)
 
 -- refusal 1: store or reply is not of its size, the bytes are no state of the client, or the table is unsound
 unfoldable pub bad_face : List ℕ → ℕ → ℕ → Bool

@@ -14,22 +14,12 @@ ghost use Rattle.connection.specs.States.{state_of};
 ghost use Rattle.client.specs.Asking.{told, event_asked};
 ghost use Rattle.client.specs.Client.{stepped};
 ghost use Rattle.saved.specs.Saved.{CLIENT, table_in, is_good};
-ghost use Rattle.client_face.specs.Face.{no_state, dvc_received, dvc_closed, dvc_started, asked_by, bad_face, Gives, faces};
+ghost use Rattle.client_face.specs.Face.{no_state, dvc_received, dvc_closed, dvc_started, bad_face, Gives, faces};
 
 use channel::Answer;
 use client::Asked;
 use deciding::Matter;
 use paper::{PARTS, Refusal};
-
-// What the host asks: what a PDU asks, or a close of the number.
-fn asked(heard: bool, list: &[u8], pdu: &[u8], number: u32) -> Asked<Matter>
-    ensures { result ≡ asked_by heard list.now pdu.now number }
-{
-    if heard {
-        return client::heard(list, pdu);
-    }
-    client::closing(number)
-}
 
 // Refusal 1: the store or the reply buffer is not of its size, the bytes are no state of this end, or the table is unsound.
 fn bad(state: &[u8], store: usize, reply: usize) -> bool
@@ -96,25 +86,22 @@ fn taken(
 fn call(
     state: &mut [u8],
     store: &mut [u8],
-    heard: bool,
-    list: &[u8],
+    asked: Asked<Matter>,
     pdu: &[u8],
-    number: u32,
     reply: &mut [u8],
 ) -> u64
     ensures value { result ≡ (faces state.old store.old
-        (event_asked (asked_by heard list.now pdu.now number) pdu.now) reply.old).answer }
+        (event_asked asked pdu.now) reply.old).answer }
     ensures state_after { state.new ≡ (faces state.old store.old
-        (event_asked (asked_by heard list.now pdu.now number) pdu.now) reply.old).state }
+        (event_asked asked pdu.now) reply.old).state }
     ensures store_after { store.new ≡ (faces state.old store.old
-        (event_asked (asked_by heard list.now pdu.now number) pdu.now) reply.old).store }
+        (event_asked asked pdu.now) reply.old).store }
     ensures reply_after { reply.new ≡ (faces state.old store.old
-        (event_asked (asked_by heard list.now pdu.now number) pdu.now) reply.old).reply }
+        (event_asked asked pdu.now) reply.old).reply }
 {
     if bad(state, store.len(), reply.len()) {
         return refused();
     }
-    let asked = asked(heard, list, pdu, number);
     taken(
         state,
         store,
@@ -165,7 +152,7 @@ pub extern "C" fn dvc_receive(
     ensures reply_after { reply.new ≡ (dvc_received state.old store.old
         list.now pdu.now reply.old).reply }
 {
-    call(state, store, true, list, pdu, 0, reply)
+    call(state, store, client::heard(list, pdu), pdu, reply)
 }
 
 // The host closes a channel. The reply is a Close.
@@ -181,5 +168,5 @@ pub extern "C" fn dvc_local_close(
     ensures store_after { store.new ≡ (dvc_closed state.old store.old number reply.old).store }
     ensures reply_after { reply.new ≡ (dvc_closed state.old store.old number reply.old).reply }
 {
-    call(state, store, false, b"", b"", number, reply)
+    call(state, store, client::closing(number), b"", reply)
 }

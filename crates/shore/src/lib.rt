@@ -16,7 +16,7 @@ ghost use Rattle.reading.specs.Garbled.{carries};
 ghost use Rattle.channel.specs.Turns.{reply_told};
 ghost use Rattle.table.specs.Sound.{sound_table};
 ghost use Rattle.deciding.specs.Deciding.{decided_of as decidedBy};
-ghost use Rattle.client.specs.Client.{store_started, place_if};
+ghost use Rattle.client.specs.Client.{store_started};
 ghost use Rattle.shore.specs.Saying.{concern_said, number_said, said_as};
 ghost use Rattle.shore.specs.Rules.{is_below_zero, awaited_record, settled_record};
 ghost use Rattle.shore.specs.Numbers.{least_number};
@@ -434,16 +434,6 @@ pub fn decide(
 
 // ---- calls that are lent the store and the reply
 
-// The place, if the answer concerns a channel.
-fn place_for(said: Said, place: usize) -> usize
-    ensures { result ≡ place_if (concern_said said) place }
-{
-    match concerns(said) {
-        None => PARTS,
-        Some(_) => place,
-    }
-}
-
 // What is asked is done: the number's record is found, what it comes to is decided, and that is put back.
 fn taken(
     shore: Shore,
@@ -486,7 +476,10 @@ fn taken(
         },
         said,
         sent,
-        place: place_for(said, connection::place_after(k, row.taken, change)),
+        place: client::place_if(
+            concerns(said),
+            connection::place_after(k, row.taken, change),
+        ),
     }
 }
 

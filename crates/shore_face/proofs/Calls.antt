@@ -32,7 +32,7 @@ use Rattle.saved.proofs.Back.{told_saved}
 use Rattle.saved.proofs.Putting.{begin_over_law}
 use Rattle.packing.specs.Packing.{answer_word, said_word, answer_place, said_place, packed_answer, packed_said}
 use Rattle.client_face.specs.Face.{no_state, begins}
-use Rattle.shore_face.specs.Face.{shore_in, saved_shore, faced, wrote, bad_face, bad_out_face, Gives, faces, asked_by}
+use Rattle.shore_face.specs.Face.{shore_in, saved_shore, faced, wrote, bad_face, bad_out_face, Gives, faces}
 use Rattle.shore_face.specs.Face.{dvc_shore_received, dvc_shore_closed, dvc_shore_started}
 
 -- both ends say refusal 1 alike
@@ -102,14 +102,14 @@ module _ (l store reply : List ℕ) (event : Event) where
           rw (s, p) (h ∙ sym no_state_law, (as_told l bytes s, (refl, refl)))
 
 -- a PDU, and a close by the host
-pub receives : (l store pdu reply : List ℕ) → dvc_shore_received l store pdu reply ≡ faces l store (event_asked (asked_by true pdu 0) pdu) reply
-unfolding dvc_shore_received received faces asked_by
+pub receives : (l store pdu reply : List ℕ) → dvc_shore_received l store pdu reply ≡ faces l store (event_asked (heard_in pdu (read_pdu false pdu)) pdu) reply
+unfolding dvc_shore_received received faces
 receives l store pdu reply = rw (event_heard pdu (read_pdu false pdu))
 
 pub closes :
     (l store pdu : List ℕ) (n : ℕ) (reply : List ℕ)
-    → dvc_shore_closed l store n reply ≡ faces l store (event_asked (asked_by false pdu n) pdu) reply
-unfolding dvc_shore_closed locally_closed faces asked_by
+    → dvc_shore_closed l store n reply ≡ faces l store (event_asked (closing_of n) pdu) reply
+unfolding dvc_shore_closed locally_closed faces
 closes l store pdu n reply = rw (event_closing n pdu)
 
 -- ---- a call that is lent the buffer of a written PDU

@@ -14,23 +14,13 @@ ghost use Rattle.saved.specs.Saved.{STATE, SHORE, table_in, is_good};
 ghost use Rattle.packing.specs.Packing.{packed_said};
 ghost use Rattle.client_face.specs.Face.{no_state};
 ghost use Rattle.shore_face.specs.Face.{shore_in, dvc_shore_received, dvc_shore_closed, dvc_shore_requested, dvc_shore_opened, dvc_shore_started};
-ghost use Rattle.shore_face.specs.Face.{asked_by, bad_face, bad_out_face, Gives, faces};
+ghost use Rattle.shore_face.specs.Face.{bad_face, bad_out_face, Gives, faces};
 
 use channel::Change;
 use client::Asked;
 use paper::{PARTS, PDU_MAX, Refusal};
 use reading::Charges;
 use shore::{Matter, Said};
-
-// What the host asks: what a PDU asks, or a close of the number.
-fn asked(heard: bool, pdu: &[u8], number: u32) -> Asked<Matter>
-    ensures { result ≡ asked_by heard pdu.now number }
-{
-    if heard {
-        return shore::hear(pdu);
-    }
-    shore::closing(number)
-}
 
 // Refusal 1: the store or the reply buffer is not of its size, the bytes are no state of this end, or the table is unsound.
 fn bad(state: &[u8], store: usize, reply: usize) -> bool
@@ -112,24 +102,22 @@ fn taken(
 fn call(
     state: &mut [u8],
     store: &mut [u8],
-    heard: bool,
+    asked: Asked<Matter>,
     pdu: &[u8],
-    number: u32,
     reply: &mut [u8],
 ) -> u64
     ensures value { result ≡ (faces state.old store.old
-        (event_asked (asked_by heard pdu.now number) pdu.now) reply.old).answer }
+        (event_asked asked pdu.now) reply.old).answer }
     ensures state_after { state.new ≡ (faces state.old store.old
-        (event_asked (asked_by heard pdu.now number) pdu.now) reply.old).state }
+        (event_asked asked pdu.now) reply.old).state }
     ensures store_after { store.new ≡ (faces state.old store.old
-        (event_asked (asked_by heard pdu.now number) pdu.now) reply.old).store }
+        (event_asked asked pdu.now) reply.old).store }
     ensures reply_after { reply.new ≡ (faces state.old store.old
-        (event_asked (asked_by heard pdu.now number) pdu.now) reply.old).reply }
+        (event_asked asked pdu.now) reply.old).reply }
 {
     if bad(state, store.len(), reply.len()) {
         return refused();
     }
-    let asked = asked(heard, pdu, number);
     taken(
         state,
         store,
@@ -174,7 +162,7 @@ pub extern "C" fn dvc_shore_receive(
     ensures store_after { store.new ≡ (dvc_shore_received state.old store.old pdu.now reply.old).store }
     ensures reply_after { reply.new ≡ (dvc_shore_received state.old store.old pdu.now reply.old).reply }
 {
-    call(state, store, true, pdu, 0, reply)
+    call(state, store, shore::hear(pdu), pdu, reply)
 }
 
 // The host closes a channel. The reply is a Close.
@@ -190,7 +178,7 @@ pub extern "C" fn dvc_shore_local_close(
     ensures store_after { store.new ≡ (dvc_shore_closed state.old store.old number reply.old).store }
     ensures reply_after { reply.new ≡ (dvc_shore_closed state.old store.old number reply.old).reply }
 {
-    call(state, store, false, b"", number, reply)
+    call(state, store, shore::closing(number), b"", reply)
 }
 
 // The Capabilities request, once, of the host's version and charges. It goes to the buffer of a written PDU.
