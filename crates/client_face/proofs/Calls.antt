@@ -29,7 +29,7 @@ use Rattle.table.specs.Sound.{sound_table}
 use Rattle.connection.specs.States.{state_of, place_after}
 use Rattle.reading.specs.Reading.{read_pdu}
 use Rattle.client.specs.Events.{Event}
-use Rattle.client.specs.Asking.{event_asked}
+use Rattle.client.specs.Asking.{event_asked, heard_in, closing_of}
 use Rattle.client.specs.declared.Received.{Received}
 use Rattle.client.specs.Client as client
 use Rattle.client.specs.Client.{Stepped, Whole, place_if, refused, stepped, bad_call, place_for, whole_of, called, received, locally_closed, started, store_started}

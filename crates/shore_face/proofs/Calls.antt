@@ -23,7 +23,7 @@ use Rattle.shore.specs.declared.Sending.{Sending}
 use Rattle.shore.specs.declared.Said.TheVariants.{Refused}
 use Rattle.shore.specs.Saying.{concern_said, number_said}
 use Rattle.shore.specs.Events.{Event}
-use Rattle.shore.specs.Asking.{event_asked}
+use Rattle.shore.specs.Asking.{event_asked, heard_in, closing_of}
 use Rattle.shore.specs.Shore.{standing, storeless, Stepped, refused, stepped, whole_of, received, locally_closed, started, Sends, sends_of, bad_out, sending}
 use Rattle.shore.proofs.Asking.{event_heard, event_closing}
 use Rattle.shore.proofs.Calls.{refuses, passes, out_refuses, unsent}
