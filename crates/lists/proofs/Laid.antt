@@ -1,13 +1,14 @@
 -- The laws of bytes laid over a list.
 -- Assumes nothing.
-use mathlib.Core.Path.{◌≡◌, refl, ◌∙◌}
+use mathlib.Core.Path.{◌≡◌, refl, ap, ◌∙◌}
 use mathlib.Core.List.{List, [], ◌∷◌, ◌++◌, append_assoc, append-nil}
 use Prim.Native.Nat.{ℕ, zero, suc, ◌+◌, ◌-◌, ◌≤◌, ◌<◌, min}
 use native.Mathlib.Nat.{add-sub_cancel_left}
 use native.Mathlib.Numerals.{add-one}
 use native.Mathlib.Omega.{arith}
-use lib.ListN.{length, take, drop, get_or, set, length-set, length-drop, replicate, length-replicate, drop_of_length-le}
-use lib.Seq.{sets-eq, length-sets, set_out, drop-cons, take_at, take_all, drop-drop, drop-length}
+use lib.ListN.{length, take, drop, get_or, set, length-set, length-drop, length-take, replicate, length-replicate, drop_of_length-le}
+use lib.Seq.{sets-eq, length-sets, set_out, drop-cons, take_at, take_all, drop-drop, drop-length, paste}
+use Rattle.std.proofs.lemmas.List.Edits.{paste_all}
 use mathlib.Core.Logic.{⊎_elim}
 use borrow.Rule.Slice.PartMut.{put_mid}
 use Rattle.lists.proofs.Cases.{lt_or_le}
@@ -16,6 +17,10 @@ use Rattle.lists.specs.Bytes.{laid, zeros}
 pub length_laid : (l : List ℕ) (at : ℕ) (bs : List ℕ) → length (laid l at bs) ≡ length l
 unfolding laid
 length_laid l at bs = length-sets l at bs
+
+pub laid_none : (l : List ℕ) (at : ℕ) → laid l at [] ≡ l
+unfolding laid
+laid_none l at = refl
 
 -- laying goes by the list's head
 pub laid_on : (x : ℕ) (l : List ℕ) (at : ℕ) (bs : List ℕ) → laid (x ∷ l) (suc at) bs ≡ x ∷ laid l at bs
@@ -120,6 +125,25 @@ take_least (suc n) [] = let e : min (suc n) 0 ≡ 0 = omega arith in rw e
 take_least (suc n) (x ∷ l) =
     let e : min (suc n) (suc (length l)) ≡ suc (min n (length l)) = omega arith in
     rw (e, take_least n l)
+
+-- as many bytes as both lists have, copied to the front
+pub laid_front : (l bs : List ℕ) (n : ℕ) → n ≡ min (length l) (length bs) → take n bs ++ drop n l ≡ laid l 0 bs
+laid_front l bs n e =
+    let all : take (length l - 0) bs ≡ take n bs = rw (← (take_least (length l - 0) bs)) (ap (λ (k : ℕ). take k bs) (omega arith)) in
+    let size : length (take n bs) ≡ n = simp length-take (omega arith) in
+    let sum : 0 + n ≡ n = omega arith in
+    rw (← (laid_fits l 0 bs), all, laid_eq l 0 (take n bs) (omega arith), size, sum)
+
+-- a list's own end, moved to its front
+pub laid_moved : (l : List ℕ) (from : ℕ) → from ≤ length l → paste l 0 (drop from l) (length l - from) ≡ laid l 0 (drop from l)
+laid_moved l from h =
+    let size : length (drop from l) ≡ length l - from = length-drop from l in
+    rw (laid_eq l 0 (drop from l) (omega arith), size) (paste_all l 0 (drop from l) (length l - from) (omega arith))
+
+-- a list laid over itself from the front, or nothing
+pub laid_same : (l : List ℕ) (from : ℕ) → (0 < from → length l ≤ from) → laid l 0 (drop from l) ≡ l
+laid_same l zero h = whole l l refl
+laid_same l (suc from) h = rw (drop_of_length-le l {i = suc from} (h (omega arith))) (laid_none l 0)
 
 -- a part of n that is lent from a place on
 pub from_to : (l : List ℕ) (at n : ℕ) → take (at + n - at) (drop at l) ≡ take n (drop at l)
