@@ -4,10 +4,9 @@ use mathlib.Core.Path.{◌≡◌, refl, ap, ◌∙◌}
 use mathlib.Core.List.{List, [], ◌∷◌, ◌++◌, append_assoc, append-nil}
 use Prim.Native.Nat.{ℕ, zero, suc, ◌+◌, ◌-◌, ◌≤◌, ◌<◌, min}
 use native.Mathlib.Nat.{add-sub_cancel_left}
-use native.Mathlib.Numerals.{add-one}
 use native.Mathlib.Omega.{arith}
-use lib.ListN.{length, take, drop, get_or, set, length-set, length-drop, length-take, replicate, length-replicate, drop_of_length-le}
-use lib.Seq.{sets-eq, length-sets, set_out, drop-cons, take_at, take_all, drop-drop, drop-length, paste}
+use lib.ListN.{length, take, drop, set, length-set, length-drop, length-take, length-replicate, drop_of_length-le}
+use lib.Seq.{sets-eq, length-sets, set_out, take_at, take_all, drop-drop, paste}
 use Rattle.std.proofs.lemmas.List.Edits.{paste_all}
 use mathlib.Core.Logic.{⊎_elim}
 use borrow.Rule.Slice.PartMut.{put_mid}
@@ -78,26 +77,6 @@ laid_fits l at (b ∷ bs) =
     rw one (laid_fits (set l at b) (suc at) bs))
     (λ (h : length l ≤ at). let none : length l - at ≡ 0 = omega arith in rw (none, laid_past l at (b ∷ bs) h))
     (lt_or_le at (length l))
-
--- one turn of a copy: the byte at i is laid, and those behind it are still to come
-pub laid_turn : (l bs : List ℕ) (i : ℕ) → i < length bs
-    → laid (set l i (get_or bs i 0)) (i + 1) (drop (i + 1) bs) ≡ laid l i (drop i bs)
-unfolding laid
-laid_turn l bs i h = rw (add-one, drop-cons bs i 0 h)
-
--- one turn of a copy with no bytes left
-pub laid_rest : (l bs : List ℕ) (i : ℕ) → length bs ≤ i → laid l (i + 1) (drop (i + 1) bs) ≡ laid l i (drop i bs)
-unfolding laid
-laid_rest l bs i h = rw (drop_of_length-le bs {i = i + 1} (omega arith), drop_of_length-le bs {i = i} h)
-
--- a copy that has come to the end of either list
-pub laid_end : (l bs : List ℕ) (i : ℕ) → min (length l) (length bs) ≤ i → laid l i (drop i bs) ≡ l
-unfolding laid
-laid_end l bs i h =
-    ⊎_elim
-    (λ (k : i < length l). rw (drop_of_length-le bs {i = i} (omega arith)))
-    (λ (k : length l ≤ i). laid_past l i (drop i bs) k)
-    (lt_or_le i (length l))
 
 -- laid bytes stand at the front
 pub front : (l bs : List ℕ) → length bs ≤ length l → take (length bs) (laid l 0 bs) ≡ bs
@@ -176,8 +155,3 @@ mid_zeros zero (suc n) zero h = absurd (omega arith)
 mid_zeros zero (suc n) (suc m) h = rw (mid_zeros zero n m (omega arith))
 mid_zeros (suc a) n zero h = absurd (omega arith)
 mid_zeros (suc a) n (suc m) h = mid_zeros a n m (omega arith)
-
--- a fill that has come to the end
-pub filled : (l : List ℕ) (i : ℕ) → i ≡ length l → replicate i 0 ++ drop i l ≡ zeros (length l)
-unfolding zeros
-filled l i e = rw (e, drop-length, append-nil)

@@ -3,19 +3,20 @@
 // Every function takes any bytes and any lengths, and none refuses.
 #![tactic(auto)]
 
-ghost use Rattle.std.specs.Prelude.{◌≡◌, ◌<◌, take};
+ghost use Rattle.std.specs.Prelude.{◌≡◌, take};
 ghost use Rattle.lists.specs.Bytes.{laid, zeros};
 ghost use Rattle.numbers.specs.Numbers.{little, bytes_of, value_of, value_at, width_of, code_for, narrowest, measured_of};
 ghost use Rattle.numbers.specs.Status.{signed_of, unsigned_of, status_of, status_bytes};
 
-// A number that was read, and whether a narrower width would do.
+// A number that was read, and whether a narrower width would do: the number counts either way.
 #[derive(Clone, Copy)]
 pub struct Measured {
     pub value: u32,
     pub wide: bool,
 }
 
-// The bytes of a width code: 1, 2 or 4. The invalid code has none.
+// The bytes of a width code: 1, 2 or 4. The invalid code has none. A code is a number, since callers hand in two bits of a PDU
+// as they stand.
 #[tactic(auto, unfolding(crate::specs::Numbers::width_of))]
 pub fn width(code: u8) -> usize
     ensures { result ≡ width_of code }
