@@ -12,22 +12,20 @@ ghost use Rattle.lists.specs.Places.{place};
 pub fn lesser(a: usize, b: usize) -> usize
     ensures { result ≡ min a b }
 {
-    if a < b { a } else { b }
+    a.min(b)
 }
 
 // Copies the block to the front of the part. Bytes behind it stay, and what doesn't fit is left out.
+#[tactic(auto, using(crate::proofs::Laid::laid_front))]
 pub fn copy(part: &mut [u8], block: &[u8])
     ensures { part.new ≡ laid part.old 0 block.now }
 {
-    let n = lesser(part.len(), block.len());
-    let mut i = 0;
-    while i < n {
-        part[i] = block[i];
-        i += 1;
-    }
+    let n = part.len().min(block.len());
+    part[..n].copy_from_slice(&block[..n]);
 }
 
 // Copies the block into the part from a place on. Bytes before and behind it stay, and what doesn't fit is left out.
+#[tactic(auto, using(crate::proofs::Laid::back_end, crate::proofs::Laid::laid_past))]
 pub fn copy_at(part: &mut [u8], at: usize, block: &[u8])
     ensures { part.new ≡ laid part.old at block.now }
 {
@@ -38,39 +36,28 @@ pub fn copy_at(part: &mut [u8], at: usize, block: &[u8])
 }
 
 // Moves the bytes from a place on to the front. Bytes behind where they come to stay.
+#[tactic(auto, using(crate::proofs::Laid::laid_moved, crate::proofs::Laid::laid_same))]
 pub fn to_front(bytes: &mut [u8], from: usize)
     ensures { bytes.new ≡ laid bytes.old 0 (drop from bytes.old) }
 {
-    let mut i = from;
-    while i < bytes.len() {
-        bytes[i - from] = bytes[i];
-        i += 1;
+    if 0 < from && from < bytes.len() {
+        bytes.copy_within(from.., 0);
     }
 }
 
 // Every byte of the part becomes zero.
+#[tactic(auto, unfolding(crate::specs::Bytes::zeros))]
 pub fn clear(part: &mut [u8])
     ensures { part.new ≡ zeros (length part.old) }
 {
-    let mut i = 0;
-    while i < part.len() {
-        part[i] = 0;
-        i += 1;
-    }
+    part.fill(0);
 }
 
 // The place of the first byte that is this one, or the length where there is none.
 pub fn first_of(bytes: &[u8], byte: u8) -> usize
     ensures { result ≡ place (is_byte byte) bytes.now }
 {
-    let mut i = 0;
-    while i < bytes.len() {
-        if bytes[i] == byte {
-            return i;
-        }
-        i += 1;
-    }
-    i
+    bytes.iter().position(|b| *b == byte).unwrap_or(bytes.len())
 }
 
 // The place of the first zero byte, or the length where there is none.

@@ -3,16 +3,16 @@ use Rattle.cutting.proofs.Blocks.{end_after_law, end_from_law}
 use Rattle.cutting.proofs.Starts.{walk_begins, walk_on, walk_ends, meets_end}
 use borrow.Author.Rules.{rules}
 use native.Mathlib.Omega.{arith}
-use Rattle.cutting.proofs.is_start.Goals as goal
+use Rattle.cutting.proofs.Message.is_start.Goals as goal
 
 pub loop-at-init : goal.loop-at-init
 loop-at-init c = (search rules, walk_begins _ _ _)
 
-pub returns-then-total-end : goal.returns-then-total-end
-returns-then-total-end c =
+pub returns-then-self-end : goal.returns-then-self-end
+returns-then-self-end c =
     let a = c.args in
     let l = c.loop-at in
-    sym (l.invariant.1 ∙ meets_end _ a.number a.total a.offset l.at c.loop-at-test.true
+    sym (l.invariant.1 ∙ meets_end _ a.self.number a.self.total a.offset l.at c.loop-at-test.true
     (omega (arith, c.block_end-end.ensures)))
 
 pub loop-at-smaller : goal.loop-at-smaller
@@ -20,7 +20,7 @@ loop-at-smaller c =
     let a = c.args in
     let l = c.loop-at in
     let end = c.block_end-end.ensures in
-    omega (arith, end_after_law a.number a.total l.at (omega (arith, end_from_law a.number a.total l.at)))
+    omega (arith, end_after_law a.self.number a.self.total l.at (omega (arith, end_from_law a.self.number a.self.total l.at)))
 
 pub loop-at-preserved : goal.loop-at-preserved
 loop-at-preserved c =
@@ -29,7 +29,7 @@ loop-at-preserved c =
     let end = c.block_end-end.ensures in
     rw end (
       omega arith,
-      l.invariant.1 ∙ walk_on a.number a.total a.offset l.at l.invariant.0
+      l.invariant.1 ∙ walk_on a.self.number a.self.total a.offset l.at l.invariant.0
           c.loop-at-test.true (omega arith),
     )
 
