@@ -80,23 +80,28 @@ impl Message {
     #[tactic(auto, using(crate::proofs::Blocks::end_from_law, crate::proofs::Blocks::end_within), unfolding(paper::specs::Sizes::MESSAGE_MAX))]
     fn lay(self, bytes: &[u8], at: usize, out: &mut [u8]) -> Piece
         requires { (length bytes.now ≡ self.total) × (at ≤ self.total) }
-        ensures value { result ≡ Piece.Pdu (length (cut_pdu self.number bytes.now at)) (block_end self.number (length bytes.now) at) }
+        ensures value { result ≡ piece_of (length (cut_pdu self.number bytes.now at)) (block_end self.number (length bytes.now) at) }
         ensures out_after { out.new ≡ laid out.old 0 (cut_pdu self.number bytes.now at) }
     {
         let next = self.block_end(at);
         let block = &bytes[at..next];
         if self.is_first(at) {
             let len = laying::data_first(out, self.number, self.total as u32, block);
-            return Piece::Pdu { len, next };
+            return Piece { len, next };
         }
         let len = laying::data(out, self.number, block);
-        Piece::Pdu { len, next }
+        Piece { len, next }
     }
 }
 
 // Cuts the block that starts at the offset off the message, and writes its PDU.
 #[tactic(auto, unfolding(paper::specs::Sizes::MESSAGE_MAX))]
-pub fn cut(number: u32, message: &[u8], offset: usize, out: &mut [u8]) -> Piece
+pub fn cut(
+    number: u32,
+    message: &[u8],
+    offset: usize,
+    out: &mut [u8],
+) -> Result<Piece, Refusal>
     ensures value { result ≡ cut_at number message.now offset out.old }
     ensures out_after { out.new ≡ cut_buffer number message.now offset out.old }
 {
@@ -111,9 +116,9 @@ pub fn cut(number: u32, message: &[u8], offset: usize, out: &mut [u8]) -> Piece
         total: message.len(),
     };
     if !whole.is_start(offset) {
-        return Piece::Refused(Refusal::NoStart);
+        return Err(Refusal::NoStart);
     }
-    whole.lay(message, offset, out)
+    Ok(whole.lay(message, offset, out))
 }
 
 // What one byte of a PDU's length counts in the number that C gets: more than any next offset.
