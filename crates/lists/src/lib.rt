@@ -7,6 +7,7 @@
 ghost use Rattle.std.specs.Prelude.{◌≡◌, min, length, drop};
 ghost use Rattle.lists.specs.Bytes.{laid, zeros, is_byte, is_zero};
 ghost use Rattle.lists.specs.Places.{place};
+ghost use Rattle.lists.specs.Lines.{first_line, behind_line};
 
 // The lesser of two numbers.
 pub fn lesser(a: usize, b: usize) -> usize
@@ -65,4 +66,14 @@ pub fn first_zero(bytes: &[u8]) -> usize
     ensures { result ≡ place is_zero bytes.now }
 {
     first_of(bytes, 0)
+}
+
+// The first line of a text, without its end, and what is behind it.
+pub fn first_line(text: &[u8]) -> (&[u8], &[u8])
+    ensures line { result.0.now ≡ first_line text.now }
+    ensures behind { result.1.now ≡ behind_line text.now }
+{
+    let end = first_of(text, b'\n');
+    let next = text.len().min(end + 1);
+    (&text[..end], &text[next..])
 }
