@@ -9,6 +9,8 @@ use native.Mathlib.Nat.{mul-suc}
 use borrow.Author.Tests.{eq-eqb, eqb-true, lt-ltb, le-leb, leb-true}
 use lib.Dec.{eqb, ltb, leb}
 use lib.ListN.{length, get_or, set, drop, drop_of_length-le}
+use Rattle.std.specs.List.{count_by}
+use Rattle.std.proofs.lemmas.List.Recursion.{is_count_by}
 use Rattle.paper.specs.Sizes.{MESSAGE_MAX}
 use Rattle.lists.proofs.Cases.{both, and_true, and_false}
 use Rattle.channel.specs.declared.Stage.{Stage}
@@ -144,13 +146,15 @@ none : (t : Bool) → cond {A = ℕ} t 0 0 ≡ 0
 none true = refl
 none false = refl
 
-pub idle_adds : (r : Record) → r.stage ≡ Idle → Adds r 0
+-- a stage in which no message is being joined
+pub else_adds : (r : Record) → ((wanted held : ℕ) → r.stage ≡ Joining wanted held → ⊥) → Adds r 0
 unfolding is_open awaits to_come good_stage
-idle_adds r e = (rw e, rw e (none (is_open r)))
-
-pub spoiled_adds : (r : Record) → r.stage ≡ Spoiled → Adds r 0
-unfolding is_open awaits to_come good_stage
-spoiled_adds r e = (rw e, rw e (none (is_open r)))
+else_adds r h = go r.stage refl
+  where
+    go : (s : Stage) → r.stage ≡ s → Adds r 0
+    go Idle e = (rw e, rw e (none (is_open r)))
+    go (Joining wanted held) e = absurd (h wanted held e)
+    go Spoiled e = (rw e, rw e (none (is_open r)))
 
 module _ (r : Record) (wanted held : ℕ) (e : r.stage ≡ Joining wanted held) (less : held < wanted) (fits : wanted ≤ MESSAGE_MAX) where
   joining_good : good_stage r.stage ≡ true
@@ -169,3 +173,12 @@ pub changed_alike :
     (totals : Totals) (a b r : Record) → opens a ≡ opens b → awaits a ≡ awaits b → changed totals a r ≡ changed totals b r
 unfolding changed
 changed_alike totals a b r e f = rw (e, f) refl
+
+-- what open records add is how many they are
+pub total_counts : (rs : List Record) → total opens rs ≡ count_by is_open rs
+unfolding total opens
+total_counts = is_count_by (total opens) is_open refl (λ r rs. go (is_open r) (total opens rs))
+  where
+    go : (b : Bool) (n : ℕ) → cond b 1 0 + n ≡ cond b (1 + n) n
+    go true n = refl
+    go false n = omega arith
