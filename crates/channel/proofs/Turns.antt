@@ -16,7 +16,6 @@ use Rattle.channel.specs.declared.Record.{Record}
 use Rattle.channel.specs.declared.Offer.{Offer}
 use Rattle.channel.specs.declared.Took.{Took}
 use Rattle.channel.specs.declared.Took.TheVariants.{Bars, Spoils, Holds, Finishes}
-use Rattle.channel.specs.declared.Concern.TheVariants.{NoChannel, Channel}
 use Rattle.channel.specs.declared.Answer.{Answer}
 use Rattle.channel.specs.declared.Answer.TheVariants.{Refused}
 use Rattle.channel.specs.declared.Ask.{Ask}
@@ -69,7 +68,7 @@ bring_open :
     → landing n row (took row.stage offer len) ≡ bringing n row offer len
 unfolding bringing
 bring_open n row offer len e =
-    sym (ap (λ (b : Bool). cond b (landing n row (took row.stage offer len)) (answering (Refused NotOpen (Channel n)))) e)
+    sym (ap (λ (b : Bool). cond b (landing n row (took row.stage offer len)) (answering (Refused NotOpen (Some n)))) e)
 
 -- ---- what data does
 

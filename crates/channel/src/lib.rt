@@ -338,7 +338,7 @@ fn bring(number: u32, row: Record, offer: Offer, n: usize) -> Turn
 pub fn garbles(row: Record, why: Refusal) -> Turn
     ensures { result ≡ garbling row why }
 {
-    let concern = Concern::NoChannel;
+    let concern = None;
     Turn {
         change: Change::Becomes(rebuilt(row, Stage::Spoiled, false)),
         ..answers(Answer::Refused { why, concern })
@@ -383,17 +383,17 @@ pub fn act(level: u8, number: u32, room: bool, row: Record, ask: Ask, n: usize) 
 
 // The channel that the answer concerns.
 #[tactic(auto, unfolding(crate::specs::Answers::concern_of))]
-pub fn concerns(answer: Answer) -> Concern
+pub fn concerns(answer: Answer) -> Option<u32>
     ensures { result ≡ concern_of answer }
 {
     match answer {
-        Answer::Ready { .. } => Concern::NoChannel,
+        Answer::Ready { .. } => None,
         Answer::Opened { number }
         | Answer::Declined { number, .. }
         | Answer::Held { number, .. }
         | Answer::Message { number, .. }
         | Answer::Closed { number }
-        | Answer::Ignored { number } => Concern::Channel(number),
+        | Answer::Ignored { number } => Some(number),
         Answer::Refused { concern, .. } => concern,
     }
 }
