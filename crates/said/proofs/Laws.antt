@@ -20,7 +20,6 @@ use Rattle.reading.specs.declared.Pdu.TheVariants.{CreateRequest, CreateResponse
 use Rattle.reading.specs.declared.Pdu.TheVariants.{CapsRequest, CapsResponse, Refused}
 use Rattle.laying.specs.Laying.{buffer_after}
 use Rattle.writing.specs.Writing.{written, outcome}
-use Rattle.writing.specs.declared.Written.{Written}
 use Rattle.said.specs.Saying.{numbers_in, bytes_in, spelled_out, numbers_of, place_of, writes, again_of, answer_to, left_by}
 
 -- the numbers and the bytes of a PDU are those that are said

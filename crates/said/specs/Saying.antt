@@ -18,8 +18,6 @@ use Rattle.reading.specs.declared.Pdu.TheVariants.{CapsRequest, CapsResponse, Re
 use Rattle.laying.specs.Laying.{buffer_after, create_request_bytes, create_response_bytes, data_first_bytes, data_bytes, close_bytes}
 use Rattle.laying.specs.Laying.{caps_request_bytes, caps_response_bytes}
 use Rattle.writing.specs.Writing.{written, outcome, bad_request, bad_capabilities}
-use Rattle.writing.specs.declared.Written.{Written}
-use Rattle.writing.specs.declared.Written.TheVariants.{Length, Refused as NotWritten}
 
 -- ---- what reading says
 

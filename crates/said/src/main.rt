@@ -20,10 +20,9 @@ ghost use Rattle.said.specs.Saying.{numbers_of, place_of, spelled_out, text_of, 
 ghost use Rattle.said.specs.Saying.{again_of, answer_to, left_by, word_for};
 
 use files::Failed;
-use paper::PDU_MAX;
+use paper::{PDU_MAX, Refusal};
 use reading::{Extent, Pdu};
 use std::io::Read;
-use writing::Written;
 
 // The bytes of the input, and of a line.
 const INPUT: usize = 65536;
