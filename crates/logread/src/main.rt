@@ -14,7 +14,7 @@ ghost use Rattle.logging.specs.Lines.{SAID_MAX};
 use blocks::BLOCK;
 use files::{ARGUMENT, Filled};
 use linklog::{ROOM, Reader};
-use logging::{Judged, SAID_MAX};
+use logging::SAID_MAX;
 use std::io::{Read, Seek, SeekFrom};
 use std::rt::Files;
 
@@ -46,15 +46,17 @@ fn tell(
     let mut at = 0;
     while BLOCK <= piece.len() - at {
         let end = at + BLOCK;
-        let told = logging::tell(next, blocks, number, &piece[at..end], room, out);
-        if told.why != 0 {
-            let said = lines::refused(out, 0, told.why);
-            files::complain(rt, &out[..said]);
-            return Gone {
-                reader: next,
-                on: false,
-            };
-        }
+        let told = match logging::tell(next, blocks, number, &piece[at..end], room, out) {
+            Ok(told) => told,
+            Err(why) => {
+                let said = lines::refused(out, 0, paper::refusal_number(why));
+                files::complain(rt, &out[..said]);
+                return Gone {
+                    reader: next,
+                    on: false,
+                };
+            }
+        };
         let laid = told.laid;
         if !files::write(rt, &out[..laid]) {
             return Gone {
@@ -113,12 +115,12 @@ fn report<R: Read>(rt: &(impl Print + Eprint), file: &mut R, name: &[u8], size: 
 {
     let mut out = [0u8; SAID_MAX];
     match logging::judge(size) {
-        Judged::Blocks(blocks) => {
+        Ok(blocks) => {
             let mut buffer = [0u8; PIECE];
             let mut room = [0u8; ROOM];
             read(rt, file, name, blocks, &mut buffer, &mut room, &mut out);
         }
-        Judged::NoLog(why) => {
+        Err(why) => {
             let said = lines::refused(&mut out, 0, paper::refusal_number(why));
             files::write(rt, &out[..said]);
         }

@@ -32,8 +32,8 @@ fn finish(rt: &(impl Print + Eprint), course: Course, had: usize, room: &[u8], o
     if !files::write(rt, &out[..last]) {
         return;
     }
-    if logging::is_over(course) {
-        let said = lines::refused(out, 0, course.why);
+    if let Some(why) = course.why {
+        let said = lines::refused(out, 0, paper::refusal_number(why));
         files::complain(rt, &out[..said]);
         return;
     }

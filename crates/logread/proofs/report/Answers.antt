@@ -4,4 +4,4 @@ use Rattle.logging.proofs.Judging.{judged_few}
 use Rattle.logread.proofs.report.Goals as goal
 
 pub read-requires : goal.read-requires
-read-requires g c = (judged_few c.args.size _ (sym c.in-Blocks.is ∙ c.judge.ensures), (omega arith, omega arith))
+read-requires g c = (judged_few c.args.size _ (sym c.in-Ok.is ∙ c.judge.ensures), (omega arith, omega arith))
