@@ -12,12 +12,12 @@ use Rattle.lists.specs.Bytes.{laid}
 use Rattle.paper.specs.declared.Refusal.TheVariants.{BadCall}
 use Rattle.blocks.specs.Block.{is_good}
 use Rattle.linklog.specs.declared.Reader.{Reader}
-use Rattle.linklog.specs.declared.Turned.TheVariants.{Stands, Refused}
 use Rattle.linklog.specs.Records.{RECORD_MAX}
 use Rattle.linklog.specs.Reading.{nothing, entered, taken}
 use Rattle.linklog.specs.TakenBack.{end_after}
 use Rattle.linklog.specs.Appending.{ROOM}
 use Rattle.linklog.specs.Turns.{is_reader, is_last_of, course_in, brought_by, gave_to, reader_at, reader_with, turned_to, room_after}
+use Rattle.std.specs.Prelude.{Ok, Err}
 
 module _ (reader : Reader) (room : List ℕ) where
   pub reader_short : length room < ROOM → false ≡ is_reader reader room
@@ -66,18 +66,18 @@ last_is blocks number some = go (eqb number (blocks - 1)) refl
 
 module _ (reader : Reader) (blocks number : ℕ) (block room : List ℕ) where
   pub no_reader : is_reader reader room ≡ false
-      → (Refused BadCall ≡ turned_to reader blocks number block room) × (room ≡ room_after reader blocks number block room)
+      → (Err BadCall ≡ turned_to reader blocks number block room) × (room ≡ room_after reader blocks number block room)
   unfolding turned_to room_after
   no_reader e = rw e (refl, refl)
 
   module _ (is : is_reader reader room ≡ true) where
     pub bad_turn : is_good (is_last_of blocks number) number block ≡ false
-        → (Stands (reader_at reader.end nothing) ≡ turned_to reader blocks number block room) × (room ≡ room_after reader blocks number block room)
+        → (Ok (reader_at reader.end nothing) ≡ turned_to reader blocks number block room) × (room ≡ room_after reader blocks number block room)
     unfolding turned_to room_after gave_to taken end_after
     bad_turn bad = rw (is, bad) (refl, refl)
 
     pub good_turn : is_good (is_last_of blocks number) number block ≡ true
-        → (Stands (reader_with reader number block (entered (course_in reader room) block)) ≡ turned_to reader blocks number block room)
+        → (Ok (reader_with reader number block (entered (course_in reader room) block)) ≡ turned_to reader blocks number block room)
         × (laid room 0 (brought_by (course_in reader room) block) ≡ room_after reader blocks number block room)
     unfolding turned_to room_after gave_to taken
     good_turn good = rw (is, good) (refl, refl)

@@ -8,12 +8,12 @@
 ghost use Rattle.std.specs.Prelude.{◌≡◌, ◌<◌, ◌^◌};
 ghost use Rattle.linklog.specs.Records.{Received, Closed, record_of};
 ghost use Rattle.linklog.specs.Taking.{taken_up};
-ghost use Rattle.log_face.specs.Words.{LOGS, READS, log_word, log_in, log_number, append_number, append_room, bit, end_word, end_in};
+ghost use Rattle.log_face.specs.Words.{LOGS, READS, log_word, log_in, log_number, append_number, append_room, end_word, end_in};
 ghost use Rattle.log_face.specs.Words.{read_word, read_in, read_number, turn_number};
 ghost use Rattle.log_face.specs.Words.{turn_room, back_number, back_room, refused_as};
 ghost use Rattle.paper.specs.Refusals.{refusal_number};
 
-use linklog::{Appended, End, Log, Reader, Turned};
+use linklog::{End, Log, Reader};
 use paper::Refusal;
 
 // The numbers of a log: the held blocks below eight, and the log's blocks above.
@@ -39,12 +39,14 @@ fn refused(why: Refusal) -> i64
     -(paper::refusal_number(why) as i64)
 }
 
+#[tactic(auto, unfolding(crate::specs::Words::log_word))]
 fn log_word(log: Log) -> u64
     ensures { (result ≡ log_word log) × (result < 2 ^ 63) }
 {
     log.held as u64 + HELDS * log.blocks as u64
 }
 
+#[tactic(auto, unfolding(crate::specs::Words::log_in))]
 fn log_in(word: u64) -> Log
     requires { word < LOGS }
     ensures { result ≡ log_in word }
@@ -55,24 +57,16 @@ fn log_in(word: u64) -> Log
     }
 }
 
-fn log_number(answer: Appended) -> i64
+fn log_number(answer: Result<Log, Refusal>) -> i64
     ensures { result ≡ log_number answer }
 {
     match answer {
-        Appended::Put(log) => log_word(log) as i64,
-        Appended::Refused(why) => refused(why),
+        Ok(log) => log_word(log) as i64,
+        Err(why) => refused(why),
     }
 }
 
-fn bit(b: bool) -> u64
-    ensures { (result ≡ bit b) × (result < 2) }
-{
-    if b {
-        return 1;
-    }
-    0
-}
-
+#[tactic(auto, unfolding(crate::specs::Words::end_word))]
 fn end_word(end: End) -> u64
     ensures { (result ≡ end_word end) × (result < 67108864) }
 {
@@ -85,9 +79,10 @@ fn read_word(reader: Reader) -> u64
     reader.whole as u64 % WHOLES
         + WHOLES
             * (reader.behind as u64 % BEHINDS
-                + BEHINDS * (bit(reader.within) + 2 * end_word(reader.end)))
+                + BEHINDS * (u64::from(reader.within) + 2 * end_word(reader.end)))
 }
 
+#[tactic(auto, unfolding(crate::specs::Words::end_in))]
 fn end_in(word: u64) -> End
     ensures { result ≡ end_in word }
 {
@@ -97,6 +92,7 @@ fn end_in(word: u64) -> End
     }
 }
 
+#[tactic(auto, unfolding(crate::specs::Words::read_in))]
 fn read_in(word: u64) -> Reader
     ensures { result ≡ read_in word }
 {
@@ -109,12 +105,12 @@ fn read_in(word: u64) -> Reader
     }
 }
 
-fn read_number(answer: Turned) -> i64
+fn read_number(answer: Result<Reader, Refusal>) -> i64
     ensures { result ≡ read_number answer }
 {
     match answer {
-        Turned::Stands(reader) => read_word(reader) as i64,
-        Turned::Refused(why) => refused(why),
+        Ok(reader) => read_word(reader) as i64,
+        Err(why) => refused(why),
     }
 }
 

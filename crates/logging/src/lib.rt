@@ -9,7 +9,7 @@
 // anything.
 #![tactic(auto)]
 
-ghost use Rattle.std.specs.Prelude.{◌≡◌, ◌+◌, ◌*◌, ◌≤◌, length, take, drop};
+ghost use Rattle.std.specs.Prelude.{◌≡◌, ◌+◌, ◌*◌, ◌≤◌, length, take, drop, IfOk};
 ghost use Rattle.lists.specs.Bytes.{laid};
 ghost use Rattle.numbers.specs.Numbers.{value_at};
 ghost use Rattle.records.specs.Records.{LENGTH};
@@ -25,9 +25,9 @@ ghost use Rattle.linklog.specs.Turns.{room_after};
 ghost use Rattle.logging.specs.Reading.{judged_by, told_by, text_of};
 
 use blocks::{BLOCK, PAYLOAD};
-use linklog::{Appended, BLOCKS_MAX, Log, ROOM, Reader, Turned};
+use linklog::{BLOCKS_MAX, Log, ROOM, Reader};
 use paper::Refusal;
-use records::{CLOSE, CLOSE_SIZE, LENGTH};
+use records::{CLOSE, LENGTH};
 
 // The most bytes that a record of the input has: its length, and as many bytes as it can announce.
 pub const INPUT_MAX: usize = LENGTH + 65534;
@@ -37,11 +37,11 @@ const TEXT_PER_BYTE: usize = 14;
 
 pub const SAID_MAX: usize = TEXT_PER_BYTE * ROOM;
 
-// How a log stands after the records so far: the log, and the number of the refusal that ended it, or 0.
+// How a log stands after the records so far: the log, and the refusal that ended it, if one did.
 #[derive(Clone, Copy)]
 pub struct Course {
     pub log: Log,
-    pub why: u8,
+    pub why: Option<Refusal>,
 }
 
 // Where writing stands between two reads: the course, how many bytes were left, and how many bytes of full blocks the last turn laid.
@@ -52,22 +52,11 @@ pub struct Stand {
     pub laid: usize,
 }
 
-// What a file is by its size.
-#[derive(Clone, Copy)]
-pub enum Judged {
-    // A log of so many blocks.
-    Blocks(u32),
-    // 22.
-    NoLog(Refusal),
-}
-
-// What a block gives: where the reader stands, how many bytes its records' lines have, and a refusal's number, or 0. A reader that `log`
-// gave for this room is never refused.
+// What a block gives: where the reader stands, and how many bytes its records' lines have.
 #[derive(Clone, Copy)]
 pub struct Told {
     pub reader: Reader,
     pub laid: usize,
-    pub why: u8,
 }
 
 // What one record gives: the course, and how many bytes of full blocks it laid.
@@ -85,35 +74,14 @@ struct Walked {
     laid: usize,
 }
 
-// How many bytes the record at the front has, or 0 where no whole record stands there.
-fn whole(input: &[u8]) -> usize
-    ensures { result ≡ input_whole input.now }
-{
-    if input.len() < LENGTH {
-        return 0;
-    }
-    let announced = numbers::short_at(input, 0);
-    if announced as u32 == CLOSE {
-        if input.len() < CLOSE_SIZE {
-            return 0;
-        }
-        return CLOSE_SIZE;
-    }
-    let size = LENGTH + announced as usize;
-    if input.len() < size {
-        return 0;
-    }
-    size
-}
-
 // Appends what a record of the input says.
-fn append(log: Log, room: &mut [u8], bytes: &[u8]) -> Appended
+fn append(log: Log, room: &mut [u8], bytes: &[u8]) -> Result<Log, Refusal>
     requires { LENGTH ≤ length bytes.now }
     ensures value { result ≡ answer_for log room.old (record_of (entry_in bytes.now)) }
     ensures room_after { room.new ≡ room_then log room.old (record_of (entry_in bytes.now)) }
 {
     let announced = numbers::short_at(bytes, 0);
-    if announced as u32 == CLOSE {
+    if u32::from(announced) == CLOSE {
         let number = numbers::number(&bytes[LENGTH..]);
         return linklog::close(log, room, number);
     }
@@ -138,9 +106,9 @@ fn is_even(log: Log, room: &[u8]) -> bool
         return true;
     }
     let at = last_at(log);
-    let start = lists::lesser(at, room.len());
-    let end = lists::lesser(at + BLOCK, room.len());
-    blocks::used(&room[start..end]) as usize == PAYLOAD
+    let start = at.min(room.len());
+    let end = (at + BLOCK).min(room.len());
+    usize::from(blocks::used(&room[start..end])) == PAYLOAD
 }
 
 // How many bytes at the room's front are full blocks.
@@ -149,9 +117,9 @@ fn full(log: Log, room: &[u8]) -> usize
         × (take result room.now ≡ full_text log room.now)) }
 {
     if is_even(log, room) {
-        return lists::lesser(BLOCK * log.held as usize, room.len());
+        return (BLOCK * log.held as usize).min(room.len());
     }
-    lists::lesser(last_at(log), room.len())
+    last_at(log).min(room.len())
 }
 
 // Appends a record, and lays the blocks that became full from a place on.
@@ -163,18 +131,21 @@ fn put(log: Log, bytes: &[u8], room: &mut [u8], out: &mut [u8], at: usize) -> St
     ensures out_after { out.new ≡ laid out.old at (put_of log room.old bytes.now).text }
 {
     match append(log, room, bytes) {
-        Appended::Put(next) => {
+        Ok(next) => {
             let n = full(next, room);
             lists::copy_at(out, at, &room[..n]);
             Stepped {
-                course: Course { log: next, why: 0 },
+                course: Course {
+                    log: next,
+                    why: None,
+                },
                 laid: n,
             }
         }
-        Appended::Refused(why) => Stepped {
+        Err(why) => Stepped {
             course: Course {
                 log,
-                why: paper::refusal_number(why),
+                why: Some(why),
             },
             laid: 0,
         },
@@ -208,11 +179,7 @@ fn walk(course: Course, input: &[u8], room: &mut [u8], out: &mut [u8]) -> Walked
     let mut next = course;
     let mut at = 0;
     let mut used = 0;
-    while at < input.len() {
-        let n = whole(&input[at..]);
-        if n == 0 {
-            break;
-        }
+    while let Some(n) = linklog::framed(&input[at..]) {
         let end = at + n;
         let stepped = step(next, &input[at..end], room, out, used);
         next = stepped.course;
@@ -233,7 +200,7 @@ pub fn begin() -> Stand
     Stand {
         course: Course {
             log: Log { blocks: 0, held: 0 },
-            why: 0,
+            why: None,
         },
         had: 0,
         laid: 0,
@@ -241,20 +208,11 @@ pub fn begin() -> Stand
 }
 
 // Whether a refusal has ended the log.
+#[tactic(auto, unfolding(crate::specs::Writing::is_over))]
 pub fn is_over(course: Course) -> bool
     ensures { result ≡ is_over course }
 {
-    course.why != 0
-}
-
-// Brings what stands from a place on to the front. Where that is the front nothing moves, however much there is.
-fn bring(bytes: &mut [u8], from: usize)
-    ensures { bytes.new ≡ laid bytes.old 0 (drop from bytes.old) }
-{
-    if from == 0 {
-        return;
-    }
-    lists::to_front(bytes, from);
+    course.why.is_some()
 }
 
 // Logs the whole records of the input that is there, what was left and behind it what was read, and lays the blocks that became full at
@@ -268,7 +226,7 @@ pub fn take(course: Course, input: &mut [u8], room: &mut [u8], out: &mut [u8]) -
 {
     let walked = walk(course, input, room, out);
     let taken = walked.taken;
-    bring(input, taken);
+    lists::to_front(input, taken);
     let course = walked.course;
     Stand {
         course,
@@ -286,8 +244,8 @@ pub fn finish(log: Log, room: &[u8], out: &mut [u8]) -> usize
         return 0;
     }
     let at = last_at(log);
-    let start = lists::lesser(at, room.len());
-    let end = lists::lesser(at + BLOCK, room.len());
+    let start = at.min(room.len());
+    let end = (at + BLOCK).min(room.len());
     lines::text(out, 0, &room[start..end])
 }
 
@@ -299,7 +257,7 @@ fn close_line(bytes: &[u8], out: &mut [u8], at: usize) -> usize
 {
     let number = numbers::number(&bytes[LENGTH..]);
     let worded = lines::text(out, at, b"close ");
-    worded + lines::field(out, at + worded, number as u64, b'\n')
+    worded + lines::field(out, at + worded, u64::from(number), b'\n')
 }
 
 // The line of a PDU, from a place on.
@@ -321,7 +279,7 @@ fn line(bytes: &[u8], out: &mut [u8], at: usize) -> usize
     ensures out_after { out.new ≡ laid out.old at (entry_line (entry_in bytes.now)) }
 {
     let announced = numbers::short_at(bytes, 0);
-    if announced as u32 == CLOSE {
+    if u32::from(announced) == CLOSE {
         return close_line(bytes, out, at);
     }
     pdu_line(&bytes[LENGTH..], out, at)
@@ -335,11 +293,7 @@ fn lines_of(records: &[u8], out: &mut [u8]) -> usize
 {
     let mut at = 0;
     let mut used = 0;
-    while at < records.len() {
-        let n = linklog::whole(&records[at..]);
-        if n == 0 {
-            break;
-        }
+    while let Some(n) = linklog::whole(&records[at..]) {
         let end = at + n;
         used += line(&records[at..end], out, used);
         at = end;
@@ -352,25 +306,26 @@ fn say(records: &[u8], out: &mut [u8]) -> usize
     ensures value { (result ≡ length (said_of (take ROOM records.now))) × (result ≤ SAID_MAX) }
     ensures out_after { out.new ≡ laid out.old 0 (said_of (take ROOM records.now)) }
 {
-    let n = lists::lesser(ROOM, records.len());
+    let n = records.len().min(ROOM);
     lines_of(&records[..n], out)
 }
 
-// What a file is by its size: a log of so many blocks, or none.
-pub fn judge(size: u64) -> Judged
+// How many blocks a log of such a size has.
+pub fn judge(size: u64) -> Result<u32, Refusal>
     ensures { result ≡ judged_by size }
 {
     if size % (BLOCK as u64) != 0 {
-        return Judged::NoLog(Refusal::NotBlocks);
+        return Err(Refusal::NotBlocks);
     }
     let blocks = size / (BLOCK as u64);
     if (BLOCKS_MAX as u64) < blocks {
-        return Judged::NoLog(Refusal::NotBlocks);
+        return Err(Refusal::NotBlocks);
     }
-    Judged::Blocks(blocks as u32)
+    Ok(blocks as u32)
 }
 
-// The lines of the records that a block gives to a reader, at the front of the output. The reader's room is lent from block to block.
+// The lines of the records that a block gives to a reader, at the front of the output. The reader's room is lent from block to block, and
+// a reader that `tell` gave for this room is never refused.
 pub fn tell(
     reader: Reader,
     blocks: u32,
@@ -378,25 +333,14 @@ pub fn tell(
     block: &[u8],
     room: &mut [u8],
     out: &mut [u8],
-) -> Told
-    ensures value { (result ≡ told_by reader blocks number block.now room.old) × (result.laid ≤ SAID_MAX) }
+) -> Result<Told, Refusal>
+    ensures value { result ≡ told_by reader blocks number block.now room.old }
+    ensures laid { IfOk result (λ told. told.laid ≤ SAID_MAX) }
     ensures room_after { room.new ≡ room_after reader blocks number block.now room.old }
     ensures out_after { out.new ≡ laid out.old 0 (text_of reader blocks number block.now room.old) }
 {
-    match linklog::turn(reader, blocks, number, block, room) {
-        Turned::Stands(next) => {
-            let n = lists::lesser(next.whole + next.behind, room.len());
-            let laid = say(&room[..n], out);
-            Told {
-                reader: next,
-                laid,
-                why: 0,
-            }
-        }
-        Turned::Refused(why) => Told {
-            reader,
-            laid: 0,
-            why: paper::refusal_number(why),
-        },
-    }
+    let next = linklog::turn(reader, blocks, number, block, room)?;
+    let n = (next.whole + next.behind).min(room.len());
+    let laid = say(&room[..n], out);
+    Ok(Told { reader: next, laid })
 }

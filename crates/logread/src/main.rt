@@ -13,7 +13,7 @@ ghost use Rattle.logging.specs.Lines.{SAID_MAX};
 use blocks::BLOCK;
 use files::{ARGUMENT, Failed};
 use linklog::{ROOM, Reader};
-use logging::{Judged, SAID_MAX};
+use logging::SAID_MAX;
 use std::io::{Read, Seek, SeekFrom};
 use std::rt::Files;
 
@@ -37,12 +37,14 @@ fn tell(
 {
     let mut next = reader;
     for (number, block) in (first..blocks).zip(piece.chunks_exact(BLOCK)) {
-        let told = logging::tell(next, blocks, number, block, room, out);
-        if told.why != 0 {
-            let said = lines::refused(out, 0, told.why);
-            files::complain(rt, &out[..said]);
-            return Err(Failed);
-        }
+        let told = match logging::tell(next, blocks, number, block, room, out) {
+            Ok(told) => told,
+            Err(why) => {
+                let said = lines::refused(out, 0, paper::refusal_number(why));
+                files::complain(rt, &out[..said]);
+                return Err(Failed);
+            }
+        };
         files::write(rt, &out[..told.laid])?;
         next = told.reader;
     }
@@ -98,8 +100,8 @@ fn report<R: Read>(
     ensures { name.now ≡ name.now }
 {
     match logging::judge(size) {
-        Judged::Blocks(blocks) => read(rt, file, name, blocks),
-        Judged::NoLog(why) => {
+        Ok(blocks) => read(rt, file, name, blocks),
+        Err(why) => {
             let mut out = [0u8; SAID_MAX];
             let said = lines::refused(&mut out, 0, paper::refusal_number(why));
             files::write(rt, &out[..said])

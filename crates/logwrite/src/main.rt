@@ -28,8 +28,8 @@ fn finish(rt: &(impl Print + Eprint), course: Course, had: usize, room: &[u8]) -
     let mut out = [0u8; BLOCK];
     let last = logging::finish(course.log, room, &mut out);
     files::write(rt, &out[..last])?;
-    if logging::is_over(course) {
-        let said = lines::refused(&mut out, 0, course.why);
+    if let Some(why) = course.why {
+        let said = lines::refused(&mut out, 0, paper::refusal_number(why));
         files::complain(rt, &out[..said]);
     } else if 0 < had {
         files::complain(

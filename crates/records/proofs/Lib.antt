@@ -6,3 +6,4 @@ pub mod Pdus
 pub mod Desk
 pub mod Pieces
 pub mod One
+pub mod Found

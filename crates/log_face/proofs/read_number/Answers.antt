@@ -9,12 +9,12 @@ use Rattle.log_face.proofs.read_number.Goals as goal
 pub overflow_cast-result : goal.overflow_cast-result
 overflow_cast-result c = record { sfits = c.read_word.ensures.1 }
 
-pub returns-in-Stands : goal.returns-in-Stands
+pub returns-in-Ok : goal.returns-in-Ok
 unfolding read_number
-returns-in-Stands c = rw c.in-Stands.is (to_z_pos w64 c.read_word.ensures.1 ∙ ap pos c.read_word.ensures.0)
+returns-in-Ok c = rw c.in-Ok.is (to_z_pos w64 c.read_word.ensures.1 ∙ ap pos c.read_word.ensures.0)
 
-pub returns-in-Refused : goal.returns-in-Refused
+pub returns-in-Err : goal.returns-in-Err
 unfolding read_number
-returns-in-Refused c =
+returns-in-Err c =
     let back = to_z-of_z {w = w64} {z = c.refused.result} (record { sfits = c.refused.type_inv }) in
-    rw c.in-Refused.is (back ∙ c.refused.ensures)
+    rw c.in-Err.is (back ∙ c.refused.ensures)

@@ -18,6 +18,6 @@ returns c =
     let bytes = a.bytes.now in
     let number = c.number-number.ensures ∙ ap value_of (to_end bytes LENGTH) ∙ number_behind bytes in
     let word = c.text-worded.ensures in
-    let told = rw number at c.field.ensures in
+    let told = rw (c.from.ensures ∙ number) at c.field.ensures in
     let line = field _ LF in
     record { value = (ends CLOSE line word.value told.value.0, omega (arith, word.value, told.value.1)); out_after = laid_further a.out.now _ _ CLOSE line a.at _ word.value word.out_after told.out_after }

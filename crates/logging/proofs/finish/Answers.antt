@@ -14,8 +14,8 @@ returns c =
     let a = c.args in
     let room = a.room.now in
     let last =
-    last_lent a.log room _ c.lesser-start.result c.lesser-end.result c.last_at-at.ensures.0 c.lesser-start.ensures
-    c.lesser-end.ensures in
+    last_lent a.log room _ c.min-start.result c.min-end.result c.last_at-at.ensures.0 c.min-start.ensures
+    c.min-end.ensures in
     let did = rw last at c.text.ensures in
     rw (last_odd a.log room (sym c.is_even.ensures ∙ c.if-is_even.false))
     (record { value = (did.value, omega (arith, did.value, last_long a.log room)); out_after = did.out_after })

@@ -9,5 +9,5 @@ returns-then-log-eq0 c = even_none _ _ c.if-log-eq0.true
 
 pub returns : goal.returns
 returns c =
-    let last = last_lent _ _ _ _ _ c.last_at-at.ensures.0 c.lesser-start.ensures c.lesser-end.ensures in
-    even_some _ _ _ c.if-log-eq0.false (c.used.ensures ∙ ap used_in last)
+    let last = last_lent _ _ _ _ _ c.last_at-at.ensures.0 c.min-start.ensures c.min-end.ensures in
+    even_some _ _ _ c.if-log-eq0.false (c.from.ensures ∙ c.used.ensures ∙ ap used_in last)

@@ -7,11 +7,11 @@ use Rattle.logging.proofs.Inputs.{announced_is, is_close_law, is_pdu}
 use native.Mathlib.Omega.{arith}
 use Rattle.logging.proofs.line.Goals as goal
 
-pub returns-then-announced-eq-CLOSE : goal.returns-then-announced-eq-CLOSE
-returns-then-announced-eq-CLOSE c =
+pub returns-then-from-eq-CLOSE : goal.returns-then-from-eq-CLOSE
+returns-then-from-eq-CLOSE c =
     let bytes = c.args.bytes.now in
     let did = c.close_line.ensures in
-    rw (is_close_law bytes _ (c.short_at-announced.ensures ∙ announced_is bytes) c.if-announced-eq-CLOSE.true)
+    rw (is_close_law bytes _ (c.from.ensures ∙ c.short_at-announced.ensures ∙ announced_is bytes) c.if-from-eq-CLOSE.true)
     (record { value = (did.value.0, omega (arith, did.value.1, c.requires.0)); out_after = did.out_after })
 
 pub pdu_line-requires : goal.pdu_line-requires
@@ -23,5 +23,5 @@ pub returns : goal.returns
 returns c =
     let bytes = c.args.bytes.now in
     let did = rw (to_end bytes LENGTH) at c.pdu_line.ensures in
-    rw (is_pdu bytes _ (c.short_at-announced.ensures ∙ announced_is bytes) c.if-announced-eq-CLOSE.false)
+    rw (is_pdu bytes _ (c.from.ensures ∙ c.short_at-announced.ensures ∙ announced_is bytes) c.if-from-eq-CLOSE.false)
     (record { value = (did.value.0, omega (arith, did.value.1, length-drop LENGTH bytes, c.requires.0)); out_after = did.out_after })
