@@ -48,10 +48,13 @@ unfoldable pub channel_field : Concern → List ℕ
 channel_field NoChannel = 45 ∷ SPACE ∷ []
 channel_field (Channel n) = field n SPACE
 
+-- the fields of what an end answers: a word's field, the channel, a number, and the length of what is sent with the byte that ends it
+unfoldable pub fields_text : List ℕ → Concern → ℕ → ℕ → ℕ → List ℕ
+fields_text word concern number sent end = ((word ++ channel_field concern) ++ field number SPACE) ++ field sent end
+
 -- the fields of an answer, and a byte that ends them: "answer [..]; channel [..]; number [..]; reply length"
 unfoldable pub answer_fields : Answer → ℕ → ℕ → List ℕ
-answer_fields answer sent end =
-    ((word_field (word_of answer) ++ channel_field (concern_of answer)) ++ field (number_of answer) SPACE) ++ field sent end
+answer_fields answer sent end = fields_text (word_field (word_of answer)) (concern_of answer) (number_of answer) sent end
 
 unfoldable pub line_of : ℕ → Answer → ℕ → List ℕ
 line_of place answer sent = field place SPACE ++ answer_fields answer sent LF
