@@ -42,41 +42,14 @@ pub const REFUSED_MAX: usize = WORD_MAX + FIELD_MAX;
 // The most bytes that a message's line has: two numbers, two digits a byte, and its end.
 pub const MESSAGE_LINE_MAX: usize = 2 * FIELD_MAX + 2 * MESSAGE_MAX + 1;
 
-// A field, at the end of its scratch.
-#[derive(Clone, Copy)]
-struct Digits {
-    bytes: [u8; FIELD_MAX],
-    start: usize,
-}
-
-// The number's decimal digits and the byte that ends them.
-fn spelled(n: u64, end: u8) -> Digits
-    ensures { (result.start < FIELD_MAX) × (length result.bytes ≡ FIELD_MAX) × (drop result.start result.bytes ≡ field n end) }
-{
-    let mut bytes = [0u8; FIELD_MAX];
-    bytes[FIELD_MAX - 1] = end;
-    let mut i = FIELD_MAX - 1;
-    let mut rest = n;
-    while 9 < rest {
-        i -= 1;
-        bytes[i] = 48 + (rest % 10) as u8;
-        rest = rest / 10;
-    }
-    i -= 1;
-    bytes[i] = 48 + rest as u8;
-    Digits { bytes, start: i }
-}
-
 // A number's field, from a place on. Answers its length.
 pub fn field(out: &mut [u8], at: usize, n: u64, end: u8) -> usize
     ensures value { (result ≡ length (field n end)) × (result ≤ FIELD_MAX) }
     ensures out_after { out.new ≡ laid out.old at (field n end) }
 {
-    let spelled = spelled(n, end);
-    let bytes = spelled.bytes;
-    let start = spelled.start;
-    lists::copy_at(out, at, &bytes[start..]);
-    FIELD_MAX - start
+    let mut bytes = [end; FIELD_MAX];
+    let start = itoa::write_digits(n, &mut bytes, FIELD_MAX - 1);
+    text(out, at, &bytes[start..])
 }
 
 // Text, from a place on. Answers its length.
@@ -104,7 +77,7 @@ fn hex_digit(d: u8) -> u8
     requires { d < 16 }
     ensures { result ≡ hex_digit d }
 {
-    if d < 10 { 48 + d } else { 87 + d }
+    if d < 10 { b'0' + d } else { b'a' - 10 + d }
 }
 
 // A byte's two digits.
