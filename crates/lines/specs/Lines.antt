@@ -59,9 +59,13 @@ answer_fields answer sent end = fields_text (word_field (word_of answer)) (conce
 unfoldable pub line_of : ℕ → Answer → ℕ → List ℕ
 line_of place answer sent = field place SPACE ++ answer_fields answer sent LF
 
+-- a place, and a word with its end
+unfoldable pub placed_line : ℕ → List ℕ → List ℕ
+placed_line place word = field place SPACE ++ word
+
 -- "A last record cut short prints its place and `cut`, and ends the run."
 unfoldable pub cut_line_of : ℕ → List ℕ
-cut_line_of place = field place SPACE ++ (99 ∷ 117 ∷ 116 ∷ 10 ∷ [])
+cut_line_of place = placed_line place (99 ∷ 117 ∷ 116 ∷ 10 ∷ [])
 
 -- "pdu reading"
 unfoldable pub reading_header : List ℕ

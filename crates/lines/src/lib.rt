@@ -8,7 +8,7 @@
 // place on, and `hex_byte` gives its two. Bytes of the buffer behind them stay. A buffer that is too short gets as much as it has room for.
 #![tactic(auto)]
 
-ghost use Rattle.std.specs.Prelude.{◌≡◌, ℕ, ◌+◌, ◌*◌, ◌^◌, ◌≤◌, ◌<◌, List, length, take, drop};
+ghost use Rattle.std.specs.Prelude.{◌≡◌, ℕ, ◌+◌, ◌*◌, ◌^◌, ◌≤◌, ◌<◌, List, Option, length, take, drop};
 ghost use Rattle.paper.specs.Sizes.{MESSAGE_MAX};
 ghost use Rattle.lists.specs.Bytes.{laid};
 ghost use Rattle.channel.specs.declared.Concern.{Concern};
@@ -16,10 +16,12 @@ ghost use Rattle.channel.specs.Answers.{word_of, concern_of, number_of};
 ghost use Rattle.lines.specs.Decimal.{FIELD_MAX, field};
 ghost use Rattle.lines.specs.Hex.{hex_digit, hex_byte, hex_of, bytes_field};
 ghost use Rattle.lines.specs.Lines.{WORD_MAX, ANSWER_MAX, LINE_MAX, header_line, word_field, channel_field, fields_text};
-ghost use Rattle.lines.specs.Lines.{answer_fields, line_of, cut_line_of};
+ghost use Rattle.lines.specs.Lines.{answer_fields, line_of, placed_line, cut_line_of};
 ghost use Rattle.lines.specs.Lines.{message_line_of, MESSAGE_LINE_MAX, reading_header, REFUSED_MAX, refused_line, verdict_field, reading_line_of};
 ghost use Rattle.lines.specs.Lines.{totals_header, totals_line_of};
 ghost use Rattle.lines.specs.Pen.{Writes};
+ghost use Rattle.lines.specs.declared.Handed.{Handed};
+ghost use Rattle.lines.specs.Spoken.{message_of};
 
 use channel::{Answer, Concern};
 use paper::MESSAGE_MAX;
@@ -87,14 +89,23 @@ pub fn hex_byte(byte: u8) -> [u8; 2]
     [hex_digit(byte / 16), hex_digit(byte % 16)]
 }
 
+// A message that an answer hands up: its channel, and how many bytes it has.
+#[derive(Clone, Copy)]
+pub struct Handed {
+    pub number: u32,
+    pub len: usize,
+}
+
 // An answer that a line tells of: the client's, and the shore's.
 pub trait Spoken: Copy {
-    // Its word and a space, the channel that it concerns, and its number.
+    // Its word and a space, the channel that it concerns, its number, and the message that it hands up.
     ghost word: { Self → List ℕ };
 
     ghost concern: { Self → Concern };
 
     ghost number: { Self → ℕ };
+
+    ghost message: { Self → Option Handed };
 
     fn word(self) -> &'static [u8]
         ensures value { result.now ≡ word self }
@@ -105,6 +116,9 @@ pub trait Spoken: Copy {
 
     fn number(self) -> u64
         ensures { result ≡ number self };
+
+    fn message(self) -> Option<Handed>
+        ensures { result ≡ message self };
 }
 
 impl Spoken for Answer {
@@ -113,6 +127,8 @@ impl Spoken for Answer {
     ghost concern = { concern_of };
 
     ghost number = { number_of };
+
+    ghost message = { message_of };
 
     #[tactic(auto, unfolding(channel::specs::Answers::word_of, crate::specs::Lines::word_field))]
     fn word(self) -> &'static [u8] {
@@ -134,6 +150,14 @@ impl Spoken for Answer {
 
     fn number(self) -> u64 {
         channel::value(self)
+    }
+
+    #[tactic(auto, unfolding(crate::specs::Spoken::message_of))]
+    fn message(self) -> Option<Handed> {
+        match self {
+            Answer::Message { number, len } => Some(Handed { number, len }),
+            _ => None,
+        }
     }
 }
 
@@ -262,15 +286,25 @@ pub fn line(out: &mut [u8], place: u64, answer: Answer, sent: usize) -> usize
     pen.at
 }
 
+// The line of a place and a word of at most eight letters, which has its end with it.
+pub fn placed(out: &mut [u8], place: u64, word: &[u8]) -> usize
+    requires { length word.now ≤ WORD_MAX }
+    ensures value { (result ≡ length (placed_line place word.now)) × (result ≤ LINE_MAX) }
+    ensures out_after { out.new ≡ laid out.old 0 (placed_line place word.now) }
+{
+    let mut pen = Pen { out, at: 0 };
+    pen.field(place, b' ');
+    pen.text(word);
+    pen.at
+}
+
 // The line of a last record that is cut short: its place and `cut`.
+#[tactic(auto, unfolding(crate::specs::Lines::cut_line_of))]
 pub fn cut_line(out: &mut [u8], place: u64) -> usize
     ensures value { (result ≡ length (cut_line_of place)) × (result ≤ LINE_MAX) }
     ensures out_after { out.new ≡ laid out.old 0 (cut_line_of place) }
 {
-    let mut pen = Pen { out, at: 0 };
-    pen.field(place, b' ');
-    pen.text(b"cut\n");
-    pen.at
+    placed(out, place, b"cut\n")
 }
 
 // The bytes of a message or of a PDU, at most 4,096, from a place on: two digits each, and `-` for none. Answers how many there are.
