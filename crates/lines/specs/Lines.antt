@@ -56,6 +56,10 @@ fields_text word concern number sent end = ((word ++ channel_field concern) ++ f
 unfoldable pub answer_fields : Answer → ℕ → ℕ → List ℕ
 answer_fields answer sent end = fields_text (word_field (word_of answer)) (concern_of answer) (number_of answer) sent end
 
+-- the line of what an end answers: its place, and its fields
+unfoldable pub answer_line : ℕ → List ℕ → Concern → ℕ → ℕ → List ℕ
+answer_line place word concern number sent = field place SPACE ++ fields_text word concern number sent LF
+
 unfoldable pub line_of : ℕ → Answer → ℕ → List ℕ
 line_of place answer sent = field place SPACE ++ answer_fields answer sent LF
 

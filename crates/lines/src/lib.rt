@@ -16,7 +16,7 @@ ghost use Rattle.channel.specs.Answers.{word_of, concern_of, number_of};
 ghost use Rattle.lines.specs.Decimal.{FIELD_MAX, field};
 ghost use Rattle.lines.specs.Hex.{hex_digit, hex_byte, hex_of, bytes_field};
 ghost use Rattle.lines.specs.Lines.{WORD_MAX, ANSWER_MAX, LINE_MAX, header_line, word_field, channel_field, fields_text};
-ghost use Rattle.lines.specs.Lines.{answer_fields, line_of, placed_line, cut_line_of};
+ghost use Rattle.lines.specs.Lines.{answer_fields, answer_line, line_of, placed_line, cut_line_of};
 ghost use Rattle.lines.specs.Lines.{message_line_of, MESSAGE_LINE_MAX, reading_header, REFUSED_MAX, refused_line, verdict_field, reading_line_of};
 ghost use Rattle.lines.specs.Lines.{totals_header, totals_line_of};
 ghost use Rattle.lines.specs.Pen.{Writes};
@@ -275,15 +275,24 @@ pub fn answer(out: &mut [u8], answer: Answer, sent: usize, end: u8) -> usize
     pen.at
 }
 
-// The line of a PDU: its place, and the fields of its answer.
-pub fn line(out: &mut [u8], place: u64, answer: Answer, sent: usize) -> usize
-    ensures value { (result ≡ length (line_of place answer sent)) × (result ≤ LINE_MAX) }
-    ensures out_after { out.new ≡ laid out.old 0 (line_of place answer sent) }
+// The line of an answer: its place, and its fields.
+pub fn answer_line<T: Spoken>(out: &mut [u8], place: u64, answer: T, sent: usize) -> usize
+    ensures value { (result ≡ length (answer_line place (T.word answer) (T.concern answer) (T.number answer) sent)) × (result ≤ LINE_MAX) }
+    ensures out_after { out.new ≡ laid out.old 0 (answer_line place (T.word answer) (T.concern answer) (T.number answer) sent) }
 {
     let mut pen = Pen { out, at: 0 };
     pen.field(place, b' ');
     pen.answer(answer, sent, b'\n');
     pen.at
+}
+
+// The line of a PDU: its place, and the fields of its answer.
+#[tactic(auto, unfolding(crate::specs::Lines::line_of, crate::specs::Lines::answer_fields, crate::specs::Lines::answer_line))]
+pub fn line(out: &mut [u8], place: u64, answer: Answer, sent: usize) -> usize
+    ensures value { (result ≡ length (line_of place answer sent)) × (result ≤ LINE_MAX) }
+    ensures out_after { out.new ≡ laid out.old 0 (line_of place answer sent) }
+{
+    answer_line(out, place, answer, sent)
 }
 
 // The line of a place and a word of at most eight letters, which has its end with it.

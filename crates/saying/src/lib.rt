@@ -15,7 +15,7 @@ ghost use Rattle.saying.specs.Saying.{said_field, message_in, desk_header, desk_
 ghost use Rattle.saying.specs.Saying.{end_field, dropped_line_of, bad_line_of};
 
 use channel::Concern;
-use lines::{Handed, Pen, Spoken};
+use lines::{Handed, Spoken};
 use shore::Said;
 
 // An end of the link.
@@ -84,14 +84,12 @@ pub fn desk_header(out: &mut [u8]) -> usize
 }
 
 // The line of a call at the shore: its place, and what is said of it.
+#[tactic(auto, unfolding(crate::specs::Saying::desk_line_of, crate::specs::Saying::said_text, lines::specs::Lines::answer_line))]
 pub fn desk_line(out: &mut [u8], place: u64, said: Said, sent: usize) -> usize
     ensures value { (result ≡ length (desk_line_of place said sent)) × (result ≤ LINE_MAX) }
     ensures out_after { out.new ≡ laid out.old 0 (desk_line_of place said sent) }
 {
-    let mut pen = Pen { out, at: 0 };
-    pen.field(place, b' ');
-    pen.answer(Told(said), sent, b'\n');
-    pen.at
+    lines::answer_line(out, place, Told(said), sent)
 }
 
 // The first line of both ends.
