@@ -66,13 +66,14 @@ unfoldable pub carry : List ℕ → (Both → List ℕ → Goes) → Both → Go
 carry sent across b = cond (eqb (length sent) 0) (stays b) (across b sent)
 
 -- "what each end answers": the end, and the line that the walker or the desk prints, then the line of a message handed up
+unfoldable pub call_text : End → List ℕ → List ℕ → List ℕ
+call_text end line handed = (end_field end ++ line) ++ handed
+
 unfoldable pub panel_text : ℕ → Received → List ℕ → List ℕ
-panel_text place r store =
-    (end_field end.Panel ++ line_of place r.answer r.sent) ++ message_text place r.place store r.answer
+panel_text place r store = call_text end.Panel (line_of place r.answer r.sent) (message_text place r.place store r.answer)
 
 unfoldable pub shore_text : ℕ → Given → List ℕ → List ℕ
-shore_text place g store =
-    (end_field end.Shore ++ desk_line_of place g.said g.sent) ++ message_said place g.place store g.said
+shore_text place g store = call_text end.Shore (desk_line_of place g.said g.sent) (message_said place g.place store g.said)
 
 -- the most bytes of one call's text
 unfoldable pub CALL_MAX : ℕ

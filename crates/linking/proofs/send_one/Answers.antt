@@ -14,10 +14,10 @@ unfolding sends_one sends_piece zeros PDU_MAX
 returns-in-Ok c =
     let got = c.cut.ensures in
     let buffer = c.cut.new.out in
-    let len = c.lesser-n.ensures in
-    let n : c.lesser-n.result ≡ min c.in-Ok.piece.len (length buffer) = omega (arith, len, c.cut.auto.out) in
+    let len = c.min-n.ensures in
+    let n : c.min-n.result ≡ min c.in-Ok.piece.len (length buffer) = omega (arith, len, c.cut.auto.out) in
     let piece = sym got.value ∙ c.in-Ok.is in
-    let did = rw (sent_lent c.in-Ok.piece.len c.lesser-n.result buffer n, got.out_after) at c.across-crossed.ensures in
+    let did = rw (sent_lent c.in-Ok.piece.len c.min-n.result buffer n, got.out_after) at c.across-crossed.ensures in
     rw piece (refl, did)
 
 pub returns-in-Err : goal.returns-in-Err
