@@ -47,7 +47,7 @@ channel_field None = 45 ∷ SPACE ∷ []
 channel_field (Some n) = field n SPACE
 
 -- the fields of what an end answers: a word's field, the channel, a number, and the length of what is sent with the byte that ends it
-unfoldable pub fields_text : List ℕ → Concern → ℕ → ℕ → ℕ → List ℕ
+unfoldable pub fields_text : List ℕ → Option ℕ → ℕ → ℕ → ℕ → List ℕ
 fields_text word concern number sent end = ((word ++ channel_field concern) ++ field number SPACE) ++ field sent end
 
 -- the fields of an answer, and a byte that ends them: "answer [..]; channel [..]; number [..]; reply length"
@@ -55,7 +55,7 @@ unfoldable pub answer_fields : Answer → ℕ → ℕ → List ℕ
 answer_fields answer sent end = fields_text (word_field (word_of answer)) (concern_of answer) (number_of answer) sent end
 
 -- the line of what an end answers: its place, and its fields
-unfoldable pub answer_line : ℕ → List ℕ → Concern → ℕ → ℕ → List ℕ
+unfoldable pub answer_line : ℕ → List ℕ → Option ℕ → ℕ → ℕ → List ℕ
 answer_line place word concern number sent = field place SPACE ++ fields_text word concern number sent LF
 
 unfoldable pub line_of : ℕ → Answer → ℕ → List ℕ

@@ -11,7 +11,6 @@
 ghost use Rattle.std.specs.Prelude.{◌≡◌, ℕ, ◌+◌, ◌*◌, ◌^◌, ◌≤◌, ◌<◌, List, Option, length, take, drop};
 ghost use Rattle.paper.specs.Sizes.{MESSAGE_MAX};
 ghost use Rattle.lists.specs.Bytes.{laid};
-ghost use Rattle.channel.specs.declared.Concern.{Concern};
 ghost use Rattle.channel.specs.Answers.{word_of, concern_of, number_of};
 ghost use Rattle.lines.specs.Decimal.{FIELD_MAX, field};
 ghost use Rattle.lines.specs.Hex.{hex_digit, hex_byte, hex_of, bytes_field};
@@ -101,7 +100,7 @@ pub trait Spoken: Copy {
     // Its word and a space, the channel that it concerns, its number, and the message that it hands up.
     ghost word: { Self → List ℕ };
 
-    ghost concern: { Self → Concern };
+    ghost concern: { Self → Option ℕ };
 
     ghost number: { Self → ℕ };
 
@@ -111,7 +110,7 @@ pub trait Spoken: Copy {
         ensures value { result.now ≡ word self }
         ensures within { length result.now ≤ WORD_MAX };
 
-    fn concern(self) -> Concern
+    fn concern(self) -> Option<u32>
         ensures { result ≡ concern self };
 
     fn number(self) -> u64
@@ -144,7 +143,7 @@ impl Spoken for Answer {
         }
     }
 
-    fn concern(self) -> Concern {
+    fn concern(self) -> Option<u32> {
         channel::concerns(self)
     }
 
@@ -185,7 +184,7 @@ impl<'a> Pen<'a> {
     }
 
     // The channel's number and a space, or `- `.
-    pub fn channel(&mut self, concern: Concern)
+    pub fn channel(&mut self, concern: Option<u32>)
         requires { self.old.at + FIELD_MAX < 2 ^ 64 }
         ensures { Writes self.old self.new (channel_field concern) FIELD_MAX }
     {

@@ -14,7 +14,6 @@ ghost use Rattle.shore.specs.Saying.{word_said, concern_said, number_said};
 ghost use Rattle.saying.specs.Saying.{said_field, message_in, desk_header, desk_line_of, END_MAX, link_header};
 ghost use Rattle.saying.specs.Saying.{end_field, dropped_line_of, bad_line_of};
 
-use channel::Concern;
 use lines::{Handed, Spoken};
 use shore::Said;
 
@@ -57,7 +56,7 @@ impl Spoken for Told {
         }
     }
 
-    fn concern(self) -> Concern {
+    fn concern(self) -> Option<u32> {
         shore::concerns(self.0)
     }
 
