@@ -10,7 +10,7 @@ use native.Mathlib.Numerals.{add-one}
 use borrow.Author.Tests.{ne_eqb}
 use lib.Dec.{eqb}
 use lib.Pointwise.{pointwise}
-use lib.ListN.{length, take, drop, length-drop, length-append}
+use lib.ListN.{length, take, drop, length-drop}
 use Rattle.lists.specs.Places.{place}
 use Rattle.lists.specs.Bytes.{is_zero}
 use Rattle.lists.proofs.Cuts.{cut_at_law, cut_on, clean_on, length_on, clean_last}
@@ -55,9 +55,6 @@ name_cut list n e h =
     rw (to_end list (n + 1), add-one, e) (cut_at_law 0 list (rw e at h), clean_before is_zero list)
 
 module _ (list name behind : List ℕ) (cut : list ≡ name ++ (0 ∷ behind)) (clean : place is_zero name ≡ length name) where
-  pub shorter : length behind < length list
-  shorter = rw cut (simp length-append (omega arith))
-
   pub good_front : 0 < length name → all_names list ≡ all_names behind
   good_front h = rw cut (all_front name behind h clean)
 
