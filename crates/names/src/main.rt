@@ -8,7 +8,7 @@
 ghost use Rattle.std.specs.Prelude.{◌≡◌};
 
 use files::{ARGUMENT, Filled};
-use published::{COMPARED_MAX, Compared, FILE_MAX};
+use published::{COMPARED_MAX, FILE_MAX, NotCompared};
 use std::rt::Files;
 
 // One byte more than a file can have that is as it should be: what has it isn't.
@@ -20,14 +20,14 @@ fn tell(rt: &(impl Print + Eprint), file: &[u8])
 {
     let mut out = [0u8; COMPARED_MAX];
     match published::compare(file, &mut out) {
-        Compared::Text(n) => {
+        Ok(n) => {
             files::write(rt, &out[..n]);
         }
-        Compared::Wrong(line) => {
+        Err(NotCompared::Wrong(line)) => {
             let n = published::say(&mut out, line);
             files::complain(rt, &out[..n]);
         }
-        Compared::NoRoom => {}
+        Err(NotCompared::NoRoom) => {}
     }
 }
 
