@@ -8,7 +8,7 @@
 ghost use Rattle.std.specs.Prelude.{◌≡◌};
 
 use files::{ARGUMENT, Failed};
-use published::{COMPARED_MAX, Compared, FILE_MAX};
+use published::{COMPARED_MAX, FILE_MAX, NotCompared};
 use std::rt::Files;
 
 // One byte more than a file can have that is as it should be: what has it isn't.
@@ -20,13 +20,13 @@ fn tell(rt: &(impl Print + Eprint), file: &[u8]) -> Result<(), Failed>
 {
     let mut out = [0u8; COMPARED_MAX];
     match published::compare(file, &mut out) {
-        Compared::Text(n) => files::write(rt, &out[..n]),
-        Compared::Wrong(line) => {
+        Ok(n) => files::write(rt, &out[..n]),
+        Err(NotCompared::Wrong(line)) => {
             let n = published::say(&mut out, line);
             files::complain(rt, &out[..n]);
             Err(Failed)
         }
-        Compared::NoRoom => Ok(()),
+        Err(NotCompared::NoRoom) => Ok(()),
     }
 }
 

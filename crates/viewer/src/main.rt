@@ -9,12 +9,11 @@
 // What is printed and said of names and lines is the work of `viewing`.
 #![tactic(auto)]
 
-ghost use Rattle.std.specs.Prelude.{◌≡◌};
-ghost use Rattle.viewing.specs.Ways.{is_known};
+ghost use Rattle.std.specs.Prelude.{◌≡◌, is_some};
 
 use files::ARGUMENT;
 use std::io::Read;
-use viewing::{Gathered, LINES_MAX, SAY_MAX, Shown, TEXT_MAX, Way};
+use viewing::{LINES_MAX, NotGathered, NotShown, SAY_MAX, TEXT_MAX, Way};
 
 // One byte more than a text can have: what has it is too long, and as a list it is outside its rule.
 const INPUT: usize = TEXT_MAX + 1;
@@ -25,16 +24,16 @@ fn show(rt: &(impl Print + Eprint), list: &[u8])
 {
     let mut out = [0u8; LINES_MAX];
     match viewing::show(list, &mut out) {
-        Shown::Lines(n) => {
+        Ok(n) => {
             let _ = files::write(rt, &out[..n]);
         }
-        Shown::Outside => {
+        Err(NotShown::Outside) => {
             files::complain(
                 rt,
                 b"viewer: no listener list: it has at most 512 bytes, of names that are not empty, each with a zero byte behind it\n",
             );
         }
-        Shown::NoRoom => {}
+        Err(NotShown::NoRoom) => {}
     }
 }
 
@@ -47,8 +46,7 @@ fn complain(rt: &impl Eprint, text: &[u8])
     let mut at = 0;
     while at < text.len() {
         let line = viewing::line_at(text, at);
-        let verdict = line.verdict;
-        let n = viewing::say(&mut out, number, verdict);
+        let n = viewing::say(&mut out, number, line.verdict);
         files::complain(rt, &out[..n]);
         at = line.next;
         number += 1;
@@ -61,25 +59,25 @@ fn gather(rt: &(impl Print + Eprint), text: &[u8])
 {
     let mut out = [0u8; INPUT];
     match viewing::gather(text, &mut out) {
-        Gathered::Bytes(n) => {
+        Ok(n) => {
             if files::write(rt, &out[..n]).is_ok() {
                 complain(rt, text);
             }
         }
-        Gathered::TooLong => {
+        Err(NotGathered::TooLong) => {
             files::complain(rt, b"viewer: the lines have more than 65,536 bytes\n");
         }
-        Gathered::NoRoom => {}
+        Err(NotGathered::NoRoom) => {}
     }
 }
 
 // Does what is asked for, and answers whether anything was.
-fn run<R: Read>(rt: &(impl Print + Eprint), reader: &mut R, way: Way) -> bool
-    ensures { result ≡ is_known way }
+fn run<R: Read>(rt: &(impl Print + Eprint), reader: &mut R, way: Option<Way>) -> bool
+    ensures { result ≡ is_some way }
 {
-    if let Way::Unknown = way {
+    let Some(way) = way else {
         return false;
-    }
+    };
     let mut input = [0u8; INPUT];
     let Ok(n) = files::load(rt, reader, b"standard input", &mut input) else {
         return true;
@@ -87,7 +85,6 @@ fn run<R: Read>(rt: &(impl Print + Eprint), reader: &mut R, way: Way) -> bool
     match way {
         Way::ToUtf8 => show(rt, &input[..n]),
         Way::ToList => gather(rt, &input[..n]),
-        Way::Unknown => {}
     }
     true
 }

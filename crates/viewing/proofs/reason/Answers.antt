@@ -1,13 +1,7 @@
 -- `viewing::reason` meets its contract: each arm is a case of the definition.
-use mathlib.Core.Path.{refl}
-use Rattle.lists.specs.Bytes.{laid}
 use Rattle.viewing.specs.Texts.{reason_for}
 use native.Mathlib.Omega.{arith}
 use Rattle.viewing.proofs.reason.Goals as goal
-
-pub returns-in-Kept : goal.returns-in-Kept
-unfolding reason_for laid
-returns-in-Kept c = rw c.in-Kept.is (record { value = (refl, omega arith); out_after = refl })
 
 pub returns-in-Empty : goal.returns-in-Empty
 unfolding reason_for
