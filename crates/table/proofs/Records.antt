@@ -11,7 +11,6 @@ use lib.Dec.{eqb}
 use lib.ListN.{length, get_or}
 use lib.Seq.{set_out, get_or-set_same, get_or-set_other}
 use Rattle.paper.specs.Sizes.{PARTS}
-use Rattle.lists.specs.Places.{place}
 use Rattle.lists.proofs.Places.{place_passes, place_none, place_all}
 use Rattle.channel.specs.declared.Record.{Record}
 use Rattle.channel.specs.Channel.{blank}
@@ -24,11 +23,12 @@ use Rattle.table.specs.Table.{
   is_free,
   number_place,
   free_place,
+  open_place,
   record_at,
   placed,
   with_record,
-  first_in,
   found_in,
+  open_in,
   home_place,
   home_in,
 }
@@ -71,16 +71,26 @@ at_past (r ∷ rs) (suc k) h = at_past rs k (omega arith)
 
 -- ---- what a search finds
 
-module _ (passes : Record → Bool) (t : Table) (k : ℕ) where
-  pub first_there : k ≡ place passes t.records → ◌≡◌ {A = Found} (record { place = k; row = record_at t k }) (first_in passes t)
-  unfolding first_in
-  first_there e = ap (λ (j : ℕ). record { place = j; row = record_at t j }) e
+pub found_there :
+    (n : ℕ) (t : Table) (k : ℕ) → k ≡ number_place n t → ◌≡◌ {A = Found} (record { place = k; row = record_at t k }) (found_in n t)
+unfolding found_in
+found_there n t k e = ap (λ (j : ℕ). record { place = j; row = record_at t j }) e
 
-  pub first_none :
-      (r : Record) → length t.records ≤ k → r ≡ blank → k ≡ place passes t.records
-      → ◌≡◌ {A = Found} (record { place = k; row = r }) (first_in passes t)
-  unfolding record_at
-  first_none r h f e = ap (λ (x : Record). record { place = k; row = x }) (f ∙ sym (at_past t.records k h)) ∙ first_there e
+pub found_none :
+    (n : ℕ) (t : Table) (k : ℕ) (r : Record) → length t.records ≤ k → r ≡ blank → k ≡ number_place n t
+    → ◌≡◌ {A = Found} (record { place = k; row = r }) (found_in n t)
+unfolding record_at
+found_none n t k r h f e = ap (λ (x : Record). record { place = k; row = x }) (f ∙ sym (at_past t.records k h)) ∙ found_there n t k e
+
+pub open_there : (t : Table) (k : ℕ) → k ≡ open_place t → ◌≡◌ {A = Found} (record { place = k; row = record_at t k }) (open_in t)
+unfolding open_in
+open_there t k e = ap (λ (j : ℕ). record { place = j; row = record_at t j }) e
+
+pub open_none :
+    (t : Table) (k : ℕ) (r : Record) → length t.records ≤ k → r ≡ blank → k ≡ open_place t
+    → ◌≡◌ {A = Found} (record { place = k; row = r }) (open_in t)
+unfolding record_at
+open_none t k r h f e = ap (λ (x : Record). record { place = k; row = x }) (f ∙ sym (at_past t.records k h)) ∙ open_there t k e
 
 pub number_holds : (n : ℕ) (t : Table) → number_place n t < length t.records → holds n (record_at t (number_place n t)) ≡ true
 unfolding number_place record_at

@@ -9,8 +9,6 @@ use native.Mathlib.Nat.{mul-suc}
 use borrow.Author.Tests.{eq-eqb, eqb-true, lt-ltb, le-leb, leb-true}
 use lib.Dec.{eqb, ltb, leb}
 use lib.ListN.{length, get_or, set, drop, drop_of_length-le}
-use Rattle.std.specs.List.{count_by}
-use Rattle.std.proofs.lemmas.List.Recursion.{is_count_by}
 use Rattle.paper.specs.Sizes.{MESSAGE_MAX}
 use Rattle.lists.proofs.Cases.{both, and_true, and_false}
 use Rattle.channel.specs.declared.Stage.{Stage}
@@ -173,12 +171,3 @@ pub changed_alike :
     (totals : Totals) (a b r : Record) → opens a ≡ opens b → awaits a ≡ awaits b → changed totals a r ≡ changed totals b r
 unfolding changed
 changed_alike totals a b r e f = rw (e, f) refl
-
--- what open records add is how many they are
-pub total_counts : (rs : List Record) → total opens rs ≡ count_by is_open rs
-unfolding total opens
-total_counts = is_count_by (total opens) is_open refl (λ r rs. go (is_open r) (total opens rs))
-  where
-    go : (b : Bool) (n : ℕ) → cond b 1 0 + n ≡ cond b (1 + n) n
-    go true n = refl
-    go false n = omega arith

@@ -45,10 +45,6 @@ found_in n t = record { place = number_place n t; row = record_at t (number_plac
 unfoldable pub open_in : Table → Found
 open_in t = record { place = open_place t; row = record_at t (open_place t) }
 
--- the first record that passes, and its place
-unfoldable pub first_in : (Record → Bool) → Table → Found
-first_in passes t = record { place = place passes t.records; row = record_at t (place passes t.records) }
-
 -- the table with a record at a place, and its totals as they were; a place that it doesn't have leaves it as it is
 unfoldable pub placed : Table → ℕ → Record → Table
 placed t k r = record { totals = t.totals; ready = t.ready; level = t.level; records = set t.records k r }

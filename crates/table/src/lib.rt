@@ -3,10 +3,9 @@
 // A table goes in by value and comes back. Every function takes any table, unsound ones too, and any number and place.
 #![tactic(auto)]
 
-ghost use Rattle.std.specs.Prelude.{◌≡◌, Bool, true, false, cond, ◌&&◌, ◌-◌, eqb};
-ghost use Rattle.channel.specs.declared.Record.{Record};
+ghost use Rattle.std.specs.Prelude.{◌≡◌, true, false, cond, ◌&&◌, eqb, drop};
 ghost use Rattle.channel.specs.Channel.{blank};
-ghost use Rattle.table.specs.Table.{empty_table, holds, with_record, free_place, found_in, open_in, home_in, first_in};
+ghost use Rattle.table.specs.Table.{empty_table, holds, with_record, free_place, found_in, open_in, home_in};
 ghost use Rattle.table.specs.Table.{bit_of, site_of, next_of, totals_after, put_back};
 ghost use Rattle.table.specs.Totals.{is_open, is_awaited, opens, awaits, total, moved, changed};
 ghost use Rattle.table.specs.Sound.{some, every, no_number_twice, is_staged, good_seat, good_level, sound_table};
@@ -87,48 +86,61 @@ fn is_open(record: Record) -> bool
     record.taken & !record.awaited
 }
 
-// The search for the first record that passes a test. It leaves with the record beside its place.
-fn first<F: Fn(Record) -> bool>(table: Table, test: F) -> Found
-    requires { F.IsAlwaysCallable test }
-    ensures { (passes : Record → Bool) → ((r : Record) (b : Bool) → F.post test r b → b ≡ passes r) → result ≡ first_in passes table }
-{
-    for (place, row) in table.records.iter().enumerate() {
-        if test(*row) {
-            return Found { place, row: *row };
-        }
-    }
-    Found {
-        place: PARTS,
-        row: blank(),
-    }
-}
-
-// The search for the record that holds the number.
+// The search for the record that holds the number. It leaves a loop of its own, as `find_open` and `find_free` do: one search
+// over a closure, or a `for`, makes a call of the manager cost twice as much (bench/NOTES.md).
 pub fn find_number(table: Table, number: u32) -> Found
     ensures { result ≡ found_in number table }
 {
-    first(table, |row| holds(row, number))
+    let mut k = 0;
+    let found = loop {
+        if k == PARTS {
+            let row = blank();
+            break Found { place: k, row };
+        }
+        let row = table.records[k];
+        if holds(row, number) {
+            break Found { place: k, row };
+        }
+        k += 1;
+    };
+    found
 }
 
 // The place of the lowest-numbered free record, or sixteen where none is free.
 pub fn find_free(table: Table) -> usize
     ensures { result ≡ free_place table }
 {
-    let mut free = PARTS;
-    for (i, record) in table.records.iter().enumerate() {
-        if !record.taken {
-            free = i;
-            break;
+    let mut i = 0;
+    let k = loop {
+        if i == PARTS {
+            break PARTS;
         }
-    }
-    free
+        let record = table.records[i];
+        if !record.taken {
+            break i;
+        }
+        i += 1;
+    };
+    k
 }
 
 // The lowest-numbered record that is open, and not awaited. Where none is open, the place is sixteen and the record a free one.
 pub fn find_open(table: Table) -> Found
     ensures { result ≡ open_in table }
 {
-    first(table, is_open)
+    let mut k = 0;
+    let found = loop {
+        if k == PARTS {
+            let row = blank();
+            break Found { place: k, row };
+        }
+        let row = table.records[k];
+        if is_open(row) {
+            break Found { place: k, row };
+        }
+        k += 1;
+    };
+    found
 }
 
 // The place of a number: of the record that holds it, or else of the lowest free record, or sixteen; with the record that
@@ -259,6 +271,18 @@ pub fn put(table: Table, ready: bool, level: u8, k: usize, row: Record, change: 
     next
 }
 
+// Whether a record from the place on holds the number.
+fn held_from(table: Table, k: usize, number: u32) -> bool
+    ensures { result ≡ some (holds number) (drop k table.records) }
+{
+    for i in k..PARTS {
+        if holds(table.records[i], number) {
+            return true;
+        }
+    }
+    false
+}
+
 // The marks that the taken records' numbers fall on: a number's mark is its remainder by this.
 const MARKS: usize = 64;
 
@@ -283,29 +307,29 @@ fn marks_apart(table: Table) -> bool
     channels == table.totals.channels
 }
 
-// Whether no number stands in two records open or awaited, each compared with those behind it.
+// Whether no number stands in two records open or awaited, each compared with those behind it. By index: over the slice that
+// is left, a step takes a quarter more (bench/NOTES.md).
 fn pairs_apart(table: Table) -> bool
     ensures { result ≡ no_number_twice table.records }
 {
-    let mut rest = &table.records[..];
-    while let Some((record, behind)) = rest.split_first() {
-        if record.taken && behind.iter().any(|other| holds(*other, record.number)) {
+    for i in 0..PARTS {
+        let record = table.records[i];
+        if record.taken && held_from(table, i + 1, record.number) {
             return false;
         }
-        rest = behind;
     }
     true
 }
 
 // How many records are open.
-fn count(table: Table) -> usize
+fn count(table: Table) -> u32
     ensures { result ≡ total opens table.records }
 {
-    table
-        .records
-        .iter()
-        .filter(|record| is_open(**record))
-        .count()
+    let mut channels = 0;
+    for record in table.records {
+        channels += opens(record);
+    }
+    channels
 }
 
 // Whether no number stands in two records open or awaited, and the open ones are as many as the total says. Numbers that
@@ -319,7 +343,7 @@ fn good_numbers(table: Table) -> bool
     if !pairs_apart(table) {
         return false;
     }
-    table.totals.channels as usize == count(table)
+    table.totals.channels == count(table)
 }
 
 // Whether each record has a class, and none is open or awaited when not ready.

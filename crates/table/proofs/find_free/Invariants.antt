@@ -1,6 +1,6 @@
 -- `table::find_free` meets its contract: no record before i is free.
 use mathlib.Core.Path.{◌≡◌}
-use Prim.Native.Nat.{◌+◌}
+use Prim.Native.Nat.{◌+◌, ◌-◌, ◌≤◌}
 use lib.ListN.{length, drop}
 use Rattle.paper.specs.Sizes.{PARTS}
 use Rattle.lists.specs.Places.{place}
@@ -8,5 +8,7 @@ use Rattle.table.specs.Table.{is_free}
 use Rattle.table.proofs.find_free.Given as goal
 
 abbrev pub invariant-loop-i : goal.invariant-loop-i
-invariant-loop-i l = (l.free ≡ PARTS) × (length l.fn.table.records ≡ PARTS)
-    × (place is_free (drop l.i l.fn.table.records) + l.i ≡ place is_free l.fn.table.records)
+invariant-loop-i l = (l.i ≤ PARTS) × (length l.table.records ≡ PARTS) × (place is_free (drop l.i l.table.records) + l.i ≡ place is_free l.table.records)
+
+abbrev pub decreases-loop-i : goal.decreases-loop-i
+decreases-loop-i l = PARTS - l.i

@@ -1,41 +1,34 @@
-use mathlib.Core.Path.{◌≡◌, refl, sym, ◌∙◌}
-use lib.ListN.{length}
-use Rattle.std.specs.List.{list_any}
-use Rattle.std.proofs.lemmas.Iterator.{YieldsList-from_slice}
-use Rattle.std.proofs.lemmas.Iterator.Search.{any_from_yields_List}
-use Rattle.table.specs.Table.{holds}
-use Rattle.table.proofs.Every.{some_any}
-use Rattle.table.proofs.Twice.{twice_first, twice_behind, twice_nil}
-use Rattle.std.proofs.Common.{rules}
+use mathlib.Core.Path.{refl, sym, ◌∙◌}
+use Rattle.paper.specs.Sizes.{PARTS}
+use Rattle.table.proofs.Twice.{twice_here, twice_on, twice_end}
+use Rattle.lists.proofs.Arrays.{length_mapped}
+use borrow.Author.Rules.{rules}
 use native.Mathlib.Omega.{arith}
 use Rattle.table.proofs.pairs_apart.Goals as goal
-use Rattle.table.proofs.pairs_apart.Goals.{else-record-via-then-record+else-any, else-record-via-else-record}
+use Rattle.table.proofs.pairs_apart.Goals.{else-record-via-then-record+else-held_from, else-record-via-else-record}
 
-pub loop-record-init : goal.loop-record-init
-loop-record-init c = refl
+pub loop-i-init : goal.loop-i-init
+unfolding PARTS
+loop-i-init c = (search (rules, length_mapped), refl)
 
-pub returns-then-any : goal.returns-then-any
-returns-then-any c =
-    let e = c.in-Some.ensures.cases.0 in
-    let any : c.any.result ≡ list_any (holds c.in-Some.record.now.number) c.in-Some.behind.now =
-    any_from_yields_List (holds c.in-Some.record.now.number) _ _ _ c.any.ensures.ran (YieldsList-from_slice _ c.iter.ensures.rest) (λ x b q k. search rules) in
-    sym (c.loop-record.invariant ∙ rw e (twice_first _ _ (rw c.if-record.true (some_any _ _ ∙ sym any ∙ c.if-any.true))))
+pub returns-then-held_from : goal.returns-then-held_from
+unfolding PARTS
+returns-then-held_from c =
+    let l = c.loop-i in
+    sym (l.invariant.1 ∙ twice_here _ l.i (omega arith) (rw c.if-record.true (sym c.held_from.ensures ∙ c.if-held_from.true)))
 
-pub loop-record-smaller : goal.loop-record-smaller
-loop-record-smaller c = let e = c.in-Some.ensures.cases in omega arith
-
-pub loop-record-preserved : goal.loop-record-preserved
-loop-record-preserved c =
-    let e = c.in-Some.ensures.cases.0 in
-    c.loop-record.invariant ∙ rw e (twice_behind _ _ (elim c.else-record.branch [
-      | else-record-via-then-record+else-any w ↦
-          let any : w.any.result ≡ list_any (holds c.in-Some.record.now.number) c.in-Some.behind.now =
-          any_from_yields_List (holds c.in-Some.record.now.number) _ _ _ w.any.ensures.ran (YieldsList-from_slice _ w.iter.ensures.rest) (λ x b q k. search rules) in
-          rw w.if-record.true (some_any _ _ ∙ sym any ∙ w.if-any.false)
-      | else-record-via-else-record w ↦ rw w.if-record.false
-    ]))
+pub loop-i-preserved : goal.loop-i-preserved
+unfolding PARTS
+loop-i-preserved c = let l = c.loop-i in (
+  l.invariant.0,
+  l.invariant.1 ∙ twice_on _ l.i (omega arith) (elim c.else-record.branch [
+    | else-record-via-then-record+else-held_from w ↦ rw w.if-record.true (sym w.held_from.ensures ∙ w.if-held_from.false)
+    | else-record-via-else-record w ↦ rw w.if-record.false
+  ]),
+)
 
 pub returns : goal.returns
+unfolding PARTS
 returns c =
-    let none : length c.loop-record.rest.now ≡ 0 = c.in_default.ensures.cases in
-    sym (c.loop-record.invariant ∙ twice_nil _ none)
+    let l = c.loop-i in
+    sym (l.invariant.1 ∙ twice_end _ l.i (omega arith))

@@ -1,11 +1,9 @@
--- `table::pairs_apart` meets its contract: the number of no taken record before the rest stands behind it too.
+-- `table::pairs_apart` meets its contract: the number of no taken record before i stands behind it too.
 use mathlib.Core.Path.{◌≡◌}
-use lib.ListN.{length}
+use lib.ListN.{length, drop}
+use Rattle.paper.specs.Sizes.{PARTS}
 use Rattle.table.specs.Sound.{no_number_twice}
 use Rattle.table.proofs.pairs_apart.Given as goal
 
-abbrev pub invariant-loop-record : goal.invariant-loop-record
-invariant-loop-record l = no_number_twice l.fn.table.records ≡ no_number_twice l.rest
-
-abbrev pub decreases-loop-record : goal.decreases-loop-record
-decreases-loop-record l = length l.rest
+abbrev pub invariant-loop-i : goal.invariant-loop-i
+invariant-loop-i l = (length l.table.records ≡ PARTS) × (no_number_twice l.table.records ≡ no_number_twice (drop l.i l.table.records))
