@@ -1,7 +1,7 @@
 // A walk over what a reader gives.
 //
-// `program` is the whole of a program that walks over standard input, and `run` walks over any reader. They only
-// read, call and write: what is written, when a read is due and when the run ends is `walking`'s to say, and no
+// `program` is the whole of a program that walks over standard input, `walk_file` walks over a file, and `run` over any
+// reader. They only read, call and write: what is written, when a read is due and when the run ends is `walking`'s to say, and no
 // contract can say what is read. A read or a write that fails is said on standard error, and ends the run.
 #![tactic(auto)]
 
@@ -14,8 +14,8 @@ use files::Failed;
 use paper::STORE;
 use records::{Due, RECORD_MAX};
 use std::io::Read;
-use std::rt::Env;
-use walking::Job;
+use std::rt::{Env, Files};
+use walking::{Job, Told};
 
 // The bytes of the store: room for both ends'.
 const BOTH: usize = 2 * STORE;
@@ -98,6 +98,16 @@ pub fn run<R: Read>(
         &mut buffer,
         &mut out,
     )
+}
+
+// Walks over the file as the walker does, with the list, behind a line with the file's name.
+pub fn walk_file(rt: &(impl Files + Print + Eprint), name: &[u8], list: &[u8]) -> Result<(), Failed>
+    ensures { (name.now ≡ name.now) × (list.now ≡ list.now) }
+{
+    let mut file = files::open(rt, name)?;
+    files::write(rt, name)?;
+    files::write(rt, b"\n")?;
+    run(rt, Job::Client(Told::Lines), &mut file, name, list)
 }
 
 // A program that does a job over standard input. It takes no arguments: any is bad use, which is said in the line

@@ -12,7 +12,7 @@
 ghost use Rattle.std.specs.Prelude.{◌≡◌};
 ghost use Rattle.viewing.specs.Ways.{is_known};
 
-use files::{ARGUMENT, Filled};
+use files::ARGUMENT;
 use std::io::Read;
 use viewing::{Gathered, LINES_MAX, SAY_MAX, Shown, TEXT_MAX, Way};
 
@@ -26,7 +26,7 @@ fn show(rt: &(impl Print + Eprint), list: &[u8])
     let mut out = [0u8; LINES_MAX];
     match viewing::show(list, &mut out) {
         Shown::Lines(n) => {
-            files::write(rt, &out[..n]);
+            let _ = files::write(rt, &out[..n]);
         }
         Shown::Outside => {
             files::complain(
@@ -62,7 +62,7 @@ fn gather(rt: &(impl Print + Eprint), text: &[u8])
     let mut out = [0u8; INPUT];
     match viewing::gather(text, &mut out) {
         Gathered::Bytes(n) => {
-            if files::write(rt, &out[..n]) {
+            if files::write(rt, &out[..n]).is_ok() {
                 complain(rt, text);
             }
         }
@@ -81,7 +81,7 @@ fn run<R: Read>(rt: &(impl Print + Eprint), reader: &mut R, way: Way) -> bool
         return false;
     }
     let mut input = [0u8; INPUT];
-    let Filled::To(n) = files::load(rt, reader, b"standard input", &mut input) else {
+    let Ok(n) = files::load(rt, reader, b"standard input", &mut input) else {
         return true;
     };
     match way {
@@ -96,7 +96,7 @@ fn main(rt: HostRuntime) {
     if files::arguments(&rt) == 1 {
         // One that is too long comes as nothing, which asks for nothing.
         let mut word = [0u8; ARGUMENT];
-        let n = files::argument(&rt, 1, &mut word);
+        let n = files::argument(&rt, 1, &mut word).unwrap_or(0);
         let way = viewing::asked(&word[..n]);
         if run(&rt, &mut rt.reader(), way) {
             return;
