@@ -20,7 +20,6 @@ use Rattle.laying.specs.Laying.{caps_request_bytes, caps_response_bytes}
 use Rattle.writing.specs.Writing.{written, outcome, bad_request, bad_capabilities}
 use Rattle.writing.specs.declared.Written.{Written}
 use Rattle.writing.specs.declared.Written.TheVariants.{Length, Refused as NotWritten}
-use Rattle.said.specs.declared.Shown.{Shown}
 
 -- ---- what reading says
 
@@ -42,10 +41,7 @@ unfoldable pub spelled_out : List ℕ → List ℕ
 spelled_out [] = []
 spelled_out (n ∷ ns) = field n SPACE ++ spelled_out ns
 
--- ---- the same, as the program holds it: six numbers, how many of them are the row's, and the place of the bytes
-
-abbrev pub shows : List ℕ → ℕ → Extent → Shown
-shows numbers count bytes = record { numbers = numbers; count = count; bytes = bytes }
+-- ---- the same, by the PDU that was read: the numbers, and the place of the bytes
 
 -- the first number of a line: Cmd, or the refusal number
 abbrev pub first_number : Pdu → ℕ
@@ -58,19 +54,28 @@ first_number (CapsRequest version c) = CAPABILITIES
 first_number (CapsResponse version) = CAPABILITIES
 first_number (Refused why) = refusal_number why
 
+abbrev pub numbers_of : Pdu → List ℕ
+numbers_of (CreateRequest number class name) = CREATE ∷ number ∷ class ∷ []
+numbers_of (CreateResponse number status) = CREATE ∷ number ∷ unsigned_of status ∷ []
+numbers_of (DataFirst number len block) = DATA_FIRST ∷ number ∷ len ∷ []
+numbers_of (Data number block) = DATA ∷ number ∷ []
+numbers_of (Close number) = CLOSE ∷ number ∷ []
+numbers_of (CapsRequest version c) = CAPABILITIES ∷ version ∷ c.class0 ∷ c.class1 ∷ c.class2 ∷ c.class3 ∷ []
+numbers_of (CapsResponse version) = CAPABILITIES ∷ version ∷ []
+numbers_of (Refused why) = refusal_number why ∷ []
+
 abbrev pub none : Extent
 none = record { at = 0; len = 0 }
 
-abbrev pub row_of : Pdu → Shown
-row_of (CreateRequest number class name) = shows (CREATE ∷ number ∷ class ∷ 0 ∷ 0 ∷ 0 ∷ []) 3 name
-row_of (CreateResponse number status) = shows (CREATE ∷ number ∷ unsigned_of status ∷ 0 ∷ 0 ∷ 0 ∷ []) 3 none
-row_of (DataFirst number len block) = shows (DATA_FIRST ∷ number ∷ len ∷ 0 ∷ 0 ∷ 0 ∷ []) 3 block
-row_of (Data number block) = shows (DATA ∷ number ∷ 0 ∷ 0 ∷ 0 ∷ 0 ∷ []) 2 block
-row_of (Close number) = shows (CLOSE ∷ number ∷ 0 ∷ 0 ∷ 0 ∷ 0 ∷ []) 2 none
-row_of (CapsRequest version c) =
-    shows (CAPABILITIES ∷ version ∷ c.class0 ∷ c.class1 ∷ c.class2 ∷ c.class3 ∷ []) 6 none
-row_of (CapsResponse version) = shows (CAPABILITIES ∷ version ∷ 0 ∷ 0 ∷ 0 ∷ 0 ∷ []) 2 none
-row_of (Refused why) = shows (refusal_number why ∷ 0 ∷ 0 ∷ 0 ∷ 0 ∷ 0 ∷ []) 1 none
+abbrev pub place_of : Pdu → Extent
+place_of (CreateRequest number class name) = name
+place_of (CreateResponse number status) = none
+place_of (DataFirst number len block) = block
+place_of (Data number block) = block
+place_of (Close number) = none
+place_of (CapsRequest version c) = none
+place_of (CapsResponse version) = none
+place_of (Refused why) = none
 
 -- ---- what was read, written again
 

@@ -6,4 +6,4 @@ use Rattle.said.proofs.bytes_at.Goals as goal
 
 pub returns : goal.returns
 unfolding bytes_at
-returns c = part_at _ _ _ c.lesser-at.ensures c.lesser-len.ensures
+returns c = part_at _ _ _ c.min-at.ensures c.min-len.ensures
