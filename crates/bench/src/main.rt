@@ -73,13 +73,6 @@ fn noted(tally: Tally, count: u32) -> Tally
     now
 }
 
-// The byte as a size.
-fn wide(byte: u8) -> usize
-    ensures { (result ≡ byte) × (result < 256) }
-{
-    byte as usize
-}
-
 // What the host asks next: what a PDU asks, or a close of the number.
 fn next_asked(received: bool, pdu: &[u8], number: u32) -> Asked
     ensures { result ≡ asked_next received pdu.now number }
@@ -99,12 +92,13 @@ fn one_round(file: &[u8], store: &mut [u8], reply: &mut [u8], before: Tally) -> 
     let mut tally = before;
     let mut at = 0;
     let mut closes = 0;
+    // Not a `for`: a turn takes a record, of any size, or closes a channel.
     while closes < PARTS {
         let mut start = at;
         let mut end = at;
         let mut number = 0;
         if 2 <= file.len() - at {
-            let n = wide(file[at]) + 256 * wide(file[at + 1]);
+            let n = u16::from_le_bytes([file[at], file[at + 1]]) as usize;
             start = at + 2;
             if file.len() - start < n {
                 at = file.len();
@@ -165,7 +159,7 @@ fn sum(t: Tally) -> u64
     plus(first, last)
 }
 
-// Writes a word, a space and a number as a line. Answers how many lines were written.
+// Writes a word, a space and a number as a line. Answers how many lines were written, a number since they are added up.
 fn print_line(rt: &impl Print, word: &str, number: u64) -> usize
     ensures { result ≤ 1 }
 {

@@ -34,6 +34,7 @@ fn judged<R: Read>(rt: &(impl Print + Eprint), reader: &mut R, head: &[u8]) -> R
     let mut buffer = [0u8; INPUT];
     let number = numbers::number(&head[..NUMBER]);
     let mut stand = judge::begin();
+    // A loop shared with the other programs that read so, over a closure, has as many lines at each caller.
     // A proved loop has to end, and nothing says that an input does: a count that no run uses up.
     for _ in 0..u64::MAX {
         let end = files::fill(rt, reader, b"standard input", &mut buffer, stand.had)?;
