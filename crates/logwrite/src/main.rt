@@ -46,6 +46,7 @@ fn run<R: Read>(rt: &(impl Print + Eprint), reader: &mut R) -> Result<(), Failed
     let mut room = [0u8; ROOM];
     let mut out = [0u8; OUTPUT];
     let mut stand = logging::begin();
+    // A loop shared with the other programs that read so, over a closure, has as many lines at each caller.
     for _ in 0..READS {
         let end = files::fill(rt, reader, b"standard input", &mut input, stand.had)?;
         if end == stand.had {

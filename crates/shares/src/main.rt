@@ -38,6 +38,7 @@ fn report<R: Read>(rt: &(impl Print + Eprint), reader: &mut R, name: &[u8]) -> R
     let mut buffer = [0u8; INPUT];
     let mut out = [0u8; OUTPUT];
     let mut stand = planning::begin();
+    // A loop shared with the other programs that read so, over a closure, has as many lines at each caller.
     for _ in 0..READS {
         let end = files::fill(rt, reader, name, &mut buffer, stand.had)?;
         if end == stand.had {

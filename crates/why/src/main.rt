@@ -31,6 +31,7 @@ fn search<R: Read>(rt: &(impl Print + Eprint), reader: &mut R, place: u64) -> Re
     let mut store = [0u8; STORE];
     let mut buffer = [0u8; INPUT];
     let mut stand = cause::begin(&mut store);
+    // A loop shared with the other programs that read so, over a closure, has as many lines at each caller.
     // A proved loop has to end, and nothing says that an input does: a count that no run uses up.
     for _ in 0..u64::MAX {
         let said = stand.course.said;
