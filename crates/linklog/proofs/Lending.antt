@@ -19,10 +19,6 @@ use Rattle.std.specs.Prelude.{Err}
 
 -- ---- a block that may be the last
 
-pub other_number : (blocks n : ℕ) (block : List ℕ) → n ≡ number_in block → (n + 1 ≡ blocks → ⊥) → false ≡ may_be_last blocks block
-unfolding may_be_last
-other_number blocks n block e h = rw (← e, ne_eqb (n + 1) blocks h) refl
-
 pub right_number : (blocks n u : ℕ) (block : List ℕ) → n ≡ number_in block → u ≡ used_in block → n + 1 ≡ blocks → leb u PAYLOAD ≡ may_be_last blocks block
 unfolding may_be_last
 right_number blocks n u block e f h = rw (← e, ← f, eq-eqb (n + 1) blocks h) refl

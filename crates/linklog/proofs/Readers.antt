@@ -4,7 +4,7 @@ use mathlib.Core.Bool.{Bool, true, false, ◌&&◌}
 use mathlib.Core.List.{List}
 use Prim.Native.Nat.{ℕ, suc, ◌-◌, ◌≤◌, ◌<◌}
 use native.Mathlib.Omega.{arith}
-use borrow.Author.Tests.{lt-leb, le-leb, leb-true, ltb-true, eq-eqb, ne_eqb, eqb-true, eqb-false}
+use borrow.Author.Tests.{le-leb, leb-true, ltb-true, eq-eqb, ne_eqb, eqb-true, eqb-false}
 use lib.Dec.{ltb, leb, eqb}
 use lib.ListN.{length}
 use Rattle.lists.proofs.Cases.{both}
@@ -20,20 +20,8 @@ use Rattle.linklog.specs.Turns.{is_reader, is_last_of, course_in, brought_by, ga
 use Rattle.std.specs.Prelude.{Ok, Err}
 
 module _ (reader : Reader) (room : List ℕ) where
-  pub reader_short : length room < ROOM → false ≡ is_reader reader room
-  unfolding is_reader
-  reader_short h = rw (lt-leb ROOM (length room) h) refl
-
   module _ (fits : ROOM ≤ length room) where
-    pub reader_whole : ROOM < reader.whole → false ≡ is_reader reader room
-    unfolding is_reader
-    reader_whole h = rw (le-leb ROOM (length room) fits, lt-leb reader.whole ROOM h) refl
-
     module _ (whole : reader.whole ≤ ROOM) where
-      pub reader_behind : ROOM - reader.whole < reader.behind → false ≡ is_reader reader room
-      unfolding is_reader
-      reader_behind h = rw (le-leb ROOM (length room) fits, le-leb reader.whole ROOM whole, lt-leb reader.behind (ROOM - reader.whole) h) refl
-
       pub reader_rests : reader.behind ≤ ROOM - reader.whole → ltb reader.behind RECORD_MAX ≡ is_reader reader room
       unfolding is_reader
       reader_rests h = rw (le-leb ROOM (length room) fits, le-leb reader.whole ROOM whole, le-leb reader.behind (ROOM - reader.whole) h) refl
@@ -49,10 +37,6 @@ module _ (reader : Reader) (room : List ℕ) where
       (leb-true _ _ two.0, (leb-true _ _ two.1, (leb-true _ _ third.1, ltb-true _ _ last.1)))
 
 -- ---- the last block
-
-pub none_last : (blocks number : ℕ) → blocks ≡ 0 → false ≡ is_last_of blocks number
-unfolding is_last_of
-none_last blocks number e = rw e (sym (ne_eqb (suc number) 0 (λ z. omega (arith, z))))
 
 pub last_is : (blocks number : ℕ) → (blocks ≡ 0 → ⊥) → eqb number (blocks - 1) ≡ is_last_of blocks number
 unfolding is_last_of

@@ -28,9 +28,6 @@ pub record Gone (input : List ℕ) (at : ℕ) : Type 0 where
   pub leads : size_of (records_of logged_whole input) ≡ at + size_of (records_of logged_whole (drop at input))
 
 module _ (input : List ℕ) where
-  pub gone_first : Gone input 0
-  gone_first = record { within = omega arith; leads = omega arith }
-
   module _ (at : ℕ) (gone : Gone input at) where
     -- behind the next record
     pub gone_on_law : (n : ℕ) → found (logged_whole (drop at input)) ≡ Some n → Gone input (at + n)

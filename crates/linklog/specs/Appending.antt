@@ -1,5 +1,6 @@
 -- What an append writes: of the log it sees how many blocks there are, and the last one.
-use Rattle.std.specs.Prelude.{ℕ, zero, suc, ◌+◌, ◌-◌, ◌*◌, ◌/◌, Bool, cond, ◌&&◌, ◌||◌, List, [], ◌∷◌, ◌++◌, ltb, leb, eqb, length, take, drop, Result, Ok, Err}
+use Rattle.std.specs.Prelude.{ℕ, zero, suc, ◌+◌, ◌-◌, ◌*◌, ◌/◌, Bool, cond, ◌&&◌, ◌||◌, ltb, leb, eqb}
+use Rattle.std.specs.Prelude.{List, [], ◌∷◌, ◌++◌, length, take, drop, Result, Ok, Err}
 use Rattle.lists.specs.Bytes.{laid}
 use Rattle.paper.specs.declared.Refusal.TheVariants.{BadCall, LogFull}
 use Rattle.blocks.specs.Block.{BLOCK, PAYLOAD, NONE, block_of, number_in, used_in, place_in, payload_in}

@@ -1,5 +1,6 @@
 -- Reading block by block, as the reader's room has it: the whole records at its front, and behind them what isn't whole.
-use Rattle.std.specs.Prelude.{ℕ, zero, suc, ◌-◌, ◌/◌, ◌≡◌, Bool, true, false, cond, ◌&&◌, List, [], ◌∷◌, ◌++◌, ltb, leb, eqb, length, take, drop, Result, Ok, Err}
+use Rattle.std.specs.Prelude.{ℕ, zero, suc, ◌-◌, ◌/◌, ◌≡◌, Bool, true, false, cond, ◌&&◌, ltb, leb, eqb}
+use Rattle.std.specs.Prelude.{List, [], ◌∷◌, ◌++◌, length, take, drop, Result, Ok, Err}
 use Rattle.lists.specs.Bytes.{laid}
 use Rattle.paper.specs.declared.Refusal.TheVariants.{BadCall}
 use Rattle.records.specs.Walks.{records_of, size_of}

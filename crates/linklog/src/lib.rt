@@ -52,7 +52,8 @@ pub struct Log {
     pub held: u32,
 }
 
-// Where the last whole record ends: in the last of so many blocks, behind so many bytes of its payload. With no block there is none.
+// Where the last whole record ends: in the last of so many blocks, behind so many bytes of its payload. With no block there is none: no
+// Option, since C keeps both numbers in a reader's (`log_face::read_word`).
 #[derive(Clone, Copy)]
 pub struct End {
     pub blocks: u32,
@@ -60,7 +61,8 @@ pub struct End {
 }
 
 // A reader between two blocks. At the room's front stand so many bytes of whole records, and behind them so many of one that isn't whole,
-// which counts only within a record: else reading looks for a block in which one begins.
+// which counts only within a record: else reading looks for a block in which one begins. What is behind stands beside `within`, and in no
+// Option, since C keeps both in a reader's number (`log_face::read_word`).
 #[derive(Clone, Copy)]
 pub struct Reader {
     pub within: bool,
@@ -76,6 +78,17 @@ struct First {
     used: usize,
     place: u32,
     ghost fits: { (number ≤ BLOCKS_MAX) × ((used < PAYLOAD) × (place < 65536)) },
+}
+
+// A good block, and its number.
+#[derive(Clone, Copy)]
+struct Good<'a> {
+    number: u32,
+    block: &'a [u8],
+    ghost numbered: { number < 65536 },
+    ghost long: { length block.now ≡ BLOCK },
+    ghost fits: { used_in block.now ≤ PAYLOAD },
+    ghost begins: { may_begin (used_in block.now) (place_in block.now) ≡ true },
 }
 
 // How many blocks so many bytes fill.
@@ -380,37 +393,36 @@ fn seeking(end: End) -> Reader
 }
 
 // A good block, within a record: its payload comes behind what the record has so far.
-fn go_on(reader: Reader, number: u32, block: &[u8], room: &mut [u8]) -> Reader
-    requires { (is_reader reader room.old ≡ true) × ((number < 65536) × ((length block.now ≡ BLOCK) × (used_in block.now ≤ PAYLOAD))) }
-    ensures value { result ≡ reader_with reader number block.now
-        (entered (Within (take reader.behind (drop reader.whole room.old))) block.now) }
+fn go_on(reader: Reader, good: Good<'_>, room: &mut [u8]) -> Reader
+    requires { is_reader reader room.old ≡ true }
+    ensures value { result ≡ reader_with reader good.entry.number good.entry.block.now
+        (entered (Within (take reader.behind (drop reader.whole room.old))) good.entry.block.now) }
     ensures room_after { room.new ≡ laid room.old 0
-        (brought_by (Within (take reader.behind (drop reader.whole room.old))) block.now) }
+        (brought_by (Within (take reader.behind (drop reader.whole room.old))) good.entry.block.now) }
 {
-    let used = usize::from(blocks::used(block));
+    let used = usize::from(blocks::used(good.block));
     let held = reader.behind;
     bring(room, reader.whole, held);
-    lists::copy_at(room, held, &block[HEAD..HEAD + used]);
-    go_through(reader.end, number, used, &room[..held + used])
+    lists::copy_at(room, held, &good.block[HEAD..HEAD + used]);
+    go_through(reader.end, good.number, used, &room[..held + used])
 }
 
 // A good block, from the place where its first record begins.
-fn go_in(reader: Reader, number: u32, block: &[u8], room: &mut [u8]) -> Reader
-    requires room_value { (is_reader reader room.old ≡ true) × ((number < 65536) × ((length block.now ≡ BLOCK) × (used_in block.now ≤ PAYLOAD))) }
-    requires block_value { may_begin (used_in block.now) (place_in block.now) ≡ true }
-    ensures value { result ≡ reader_with reader number block.now (entered Seeking block.now) }
-    ensures room_after { room.new ≡ laid room.old 0 (brought_by Seeking block.now) }
+fn go_in(reader: Reader, good: Good<'_>, room: &mut [u8]) -> Reader
+    requires { is_reader reader room.old ≡ true }
+    ensures value { result ≡ reader_with reader good.entry.number good.entry.block.now (entered Seeking good.entry.block.now) }
+    ensures room_after { room.new ≡ laid room.old 0 (brought_by Seeking good.entry.block.now) }
 {
-    let place = blocks::place(block);
+    let place = blocks::place(good.block);
     if u32::from(place) == NONE {
         return seeking(reader.end);
     }
     let place = usize::from(place);
-    let used = usize::from(blocks::used(block));
+    let used = usize::from(blocks::used(good.block));
     let size = used - place;
     let from = HEAD + place;
-    lists::copy(room, &block[from..from + size]);
-    go_through(reader.end, number, used, &room[..size])
+    lists::copy(room, &good.block[from..from + size]);
+    go_through(reader.end, good.number, used, &room[..size])
 }
 
 // Whether the block of a number is the last of so many.
@@ -422,16 +434,15 @@ fn is_last_of(blocks: u32, number: u32) -> bool
 }
 
 // A good block.
-fn enter(reader: Reader, number: u32, block: &[u8], room: &mut [u8]) -> Reader
-    requires room_value { (is_reader reader room.old ≡ true) × ((number < 65536) × ((length block.now ≡ BLOCK) × (used_in block.now ≤ PAYLOAD))) }
-    requires block_value { may_begin (used_in block.now) (place_in block.now) ≡ true }
-    ensures value { result ≡ reader_with reader number block.now (entered (course_in reader room.old) block.now) }
-    ensures room_after { room.new ≡ laid room.old 0 (brought_by (course_in reader room.old) block.now) }
+fn enter(reader: Reader, good: Good<'_>, room: &mut [u8]) -> Reader
+    requires { is_reader reader room.old ≡ true }
+    ensures value { result ≡ reader_with reader good.entry.number good.entry.block.now (entered (course_in reader room.old) good.entry.block.now) }
+    ensures room_after { room.new ≡ laid room.old 0 (brought_by (course_in reader room.old) good.entry.block.now) }
 {
     if reader.within {
-        return go_on(reader, number, block, room);
+        return go_on(reader, good, room);
     }
-    go_in(reader, number, block, room)
+    go_in(reader, good, room)
 }
 
 // Reads the block of a number, of a log of so many. At the room's front then stand the bytes of the records that it makes whole, one
@@ -452,7 +463,7 @@ pub fn turn(
     if !blocks::good(block, number, is_last_of(blocks, number)) {
         return Ok(seeking(reader.end));
     }
-    Ok(enter(reader, number, block, room))
+    Ok(enter(reader, Good { number, block }, room))
 }
 
 // A log that was stopped between two appends, taken up from its last block, which is to stand at the room's front.

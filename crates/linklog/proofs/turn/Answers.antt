@@ -20,19 +20,16 @@ returns-then-not-good c =
     record { value = ap Ok c.seeking.ensures ∙ bad.0; room_after = bad.1 }
 
 pub enter-requires : goal.enter-requires
+enter-requires c = sym c.is_reader.ensures ∙ c.if-not-is_reader.false
+
+pub invariant_of-enter : goal.invariant_of-enter
 unfolding number_in
-enter-requires c =
+invariant_of-enter c =
     let a = c.args in
     let judged = sym (rw c.is_last_of.ensures at c.good.ensures) in
     let says = good_says _ _ a.block.now (judged ∙ c.if-not-good.false) in
     let small = value_below a.block.now 0 2 (omega arith) (λ i. (c.type_inv.block i).fits) in
-    record {
-      room_value = (
-        sym c.is_reader.ensures ∙ c.if-not-is_reader.false,
-        (omega (arith, says.2, small), (says.0, uses_le _ _ says.3)),
-      );
-      block_value = says.4;
-    }
+    record { numbered = omega (arith, says.2, small); long = says.0; fits = uses_le _ _ says.3; begins = says.4 }
 
 pub returns : goal.returns
 returns c =
