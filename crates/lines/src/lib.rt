@@ -1,11 +1,15 @@
 // The text of the programs' lines.
 //
+// A `Pen` has a buffer and a place in it, and lays text after text there: a number's field, a channel, the fields of an answer, bytes.
+// What an answer is to a line, its word, channel, number and message, is the trait `Spoken`, which the client's answer has here.
+//
 // `header` lays the walker's first line, `line` the line of one PDU from its place, its answer and its reply's length, `answer`
-// the same without its place, `cut_line` the line of a last record that is cut short; `message_line` lays the line of a message handed up;
+// the same without its place, `answer_line` the same for any answer that is `Spoken`, `cut_line` the line of a last record that is
+// cut short, and `placed` that of a place and any such word; `message_line` lays the line of a message handed up;
 // `reading_header` and `reading_line` lay the lines of PDUs that are only read, `totals_header` and `totals_line` those of
 // the connection's totals. Each lays its bytes at the front of a
-// buffer and answers how many there are; `field`, `channel`, `text`, `bytes_field` and `refused`, of which lines are made, lay theirs from a
-// place on, and `hex_byte` gives its two. Bytes of the buffer behind them stay. A buffer that is too short gets as much as it has room for.
+// buffer and answers how many there are; `field`, `channel`, `text`, `bytes_field` and `refused`, of which lines are made, lay theirs from
+// any place on, and `hex_byte` gives its two. Bytes of the buffer behind them stay. A buffer that is too short gets as much as it has room for.
 #![tactic(auto)]
 
 ghost use Rattle.std.specs.Prelude.{◌≡◌, ℕ, ◌+◌, ◌*◌, ◌^◌, ◌≤◌, ◌<◌, List, Option, length, take, drop};
@@ -348,7 +352,7 @@ pub fn reading_header(out: &mut [u8]) -> usize
     text(out, 0, b"pdu reading\n")
 }
 
-// `refused` and a refusal's number, from a place on. Answers its length.
+// `refused` and a refusal's number, from a place on. Answers its length. Any number may be told, so it is no `Refusal`.
 pub fn refused(out: &mut [u8], at: usize, refusal: u8) -> usize
     ensures value { (result ≡ length (refused_line refusal)) × (result ≤ REFUSED_MAX) }
     ensures out_after { out.new ≡ laid out.old at (refused_line refusal) }
@@ -359,7 +363,7 @@ pub fn refused(out: &mut [u8], at: usize, refusal: u8) -> usize
     pen.at - from
 }
 
-// The line of a PDU that was read: its place, and what reading said of it.
+// The line of a PDU that was read: its place, and what reading said of it. Any number may be told, so it is no `Option<Refusal>`.
 pub fn reading_line(out: &mut [u8], place: u64, refusal: u8) -> usize
     ensures value { (result ≡ length (reading_line_of place refusal)) × (result ≤ LINE_MAX) }
     ensures out_after { out.new ≡ laid out.old 0 (reading_line_of place refusal) }

@@ -39,7 +39,7 @@ pub struct Crossed {
     pub laid: usize,
 }
 
-// What comes of a record: whether it is none, too.
+// What comes of a record: whether it is none, too. That is no `Result`, since a record that is none has its text as well.
 #[derive(Clone, Copy)]
 pub struct Stepped {
     pub crossed: Crossed,
