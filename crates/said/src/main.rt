@@ -15,7 +15,7 @@ ghost use Rattle.lists.specs.Bytes.{laid, zeros};
 ghost use Rattle.paper.specs.Sizes.{PDU_MAX};
 ghost use Rattle.listeners.specs.Listeners.{same_bytes};
 ghost use Rattle.reading.specs.Reading.{read_pdu};
-ghost use Rattle.reading.specs.Said.{said, bytes_at};
+ghost use Rattle.reading.specs.Said.{said};
 ghost use Rattle.said.specs.Saying.{numbers_of, place_of, spelled_out, text_of, line_of, first_number};
 ghost use Rattle.said.specs.Saying.{again_of, answer_to, left_by, word_for};
 
@@ -62,15 +62,6 @@ fn place(pdu: Pdu) -> Extent
         Pdu::CapsResponse { .. } => NONE,
         Pdu::Refused(_) => NONE,
     }
-}
-
-// The bytes at a place of the PDU.
-fn bytes_at(pdu: &[u8], bytes: Extent) -> &[u8]
-    ensures { result.now ≡ bytes_at pdu.now bytes }
-{
-    let at = bytes.at.min(pdu.len());
-    let len = bytes.len.min(pdu.len() - at);
-    &pdu[at..at + len]
 }
 
 // Numbers, each with a space behind it, from the front. Answers where they end.
@@ -121,7 +112,7 @@ fn text(out: &mut [u8], pdu: &[u8], read: Pdu) -> usize
     ensures value { (result ≡ length (text_of (said pdu.now read))) × (result ≤ 147 + length pdu.now) }
     ensures out_after { out.new ≡ laid out.old 0 (text_of (said pdu.now read)) }
 {
-    let bytes = bytes_at(pdu, place(read));
+    let bytes = place(read).of(pdu);
     let spelled = row(out, read);
     let counted = spelled + lines::field(out, spelled, bytes.len() as u64, b':');
     counted + lines::text(out, counted, bytes)
@@ -137,7 +128,7 @@ fn again(out: &mut [u8], pdu: &[u8], read: Pdu) -> Result<usize, Refusal>
             number,
             class,
             name,
-        } => writing::write_create_request(out, number, class, bytes_at(pdu, name)),
+        } => writing::write_create_request(out, number, class, name.of(pdu)),
         Pdu::CreateResponse { number, status } => writing::write_create_response(
             out, number, status,
         ),
@@ -145,8 +136,8 @@ fn again(out: &mut [u8], pdu: &[u8], read: Pdu) -> Result<usize, Refusal>
             number,
             length,
             block,
-        } => writing::write_data_first(out, number, length, bytes_at(pdu, block)),
-        Pdu::Data { number, block } => writing::write_data(out, number, bytes_at(pdu, block)),
+        } => writing::write_data_first(out, number, length, block.of(pdu)),
+        Pdu::Data { number, block } => writing::write_data(out, number, block.of(pdu)),
         Pdu::Close { number } => writing::write_close(out, number),
         Pdu::CapsRequest { version, charges } => writing::write_capabilities_request(
             out, version, charges,

@@ -16,7 +16,7 @@ unfolding text_of
 returns c =
     let a = c.args in
     let says = said a.pdu.now a.read in
-    let lent = rw c.place.ensures at c.bytes_at-bytes.ensures in
+    let lent = rw c.place.ensures at c.of-bytes.ensures in
     let bytes = lent ∙ (row_says a.pdu.now a.read).1 in
     let p1 = rw (row_says a.pdu.now a.read).0 at c.row-spelled.ensures in
     let p2 = rw bytes at c.field.ensures in
