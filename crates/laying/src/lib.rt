@@ -2,7 +2,8 @@
 //
 // Each function lays the PDU that specs/Laying gives for its values, and answers the PDU's length. Bytes of the buffer
 // behind it stay. A buffer that is too short gets as much of it as it has room for. None refuses: what may be written,
-// and in what buffer, is judged by the callers.
+// and in what buffer, is judged by the callers. A place in the buffer is a plain number: a cursor's contract would name, as these do,
+// what is laid and how long that is.
 #![tactic(auto)]
 
 ghost use Rattle.std.specs.Prelude.{◌≡◌};

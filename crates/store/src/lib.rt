@@ -23,7 +23,7 @@ fn has_part(size: usize, k: usize) -> bool
 //
 // The compiler makes of the two copies one call that moves bytes, and leaves the array out: what is lent to neither copy can't
 // overlap what is. Of a copy from one lent slice to another it makes a loop, since it isn't told that the two lie apart, which
-// takes twice as long.
+// takes twice as long. The part is cut out of the store by its place, so it comes as a slice, and its length is asked for.
 fn fill(part: &mut [u8], at: usize, block: &[u8])
     requires { length part.old ≡ PART }
     ensures { part.new ≡ laid part.old at block.now }
