@@ -1,5 +1,5 @@
 -- `said::text` meets its contract: the row's numbers and bytes are those that are said, and each field is laid behind the one before.
-use mathlib.Core.Path.{◌≡◌, ◌∙◌}
+use mathlib.Core.Path.{◌∙◌}
 use mathlib.Core.List.{◌++◌}
 use lib.ListN.{length}
 use Rattle.lists.proofs.Laid.{laid_next}
