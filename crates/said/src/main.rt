@@ -243,8 +243,11 @@ fn line(out: &mut [u8], from_server: bool, pdu: &[u8]) -> usize
 fn show(rt: &(impl Print + Eprint), input: &[u8]) -> usize
     ensures { result ≤ length input.now }
 {
-    let size = records::whole(input);
-    if size <= records::LENGTH {
+    let Some(size) = records::whole(input) else {
+        files::write(rt, b"cut\n");
+        return 0;
+    };
+    if size == records::LENGTH {
         files::write(rt, b"cut\n");
         return 0;
     }
