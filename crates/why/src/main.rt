@@ -9,7 +9,7 @@
 ghost use Rattle.std.specs.Prelude.{◌≤◌, ◌≡◌, length};
 ghost use Rattle.cause.specs.Why.{WHY_MAX};
 
-use cause::{Said, Sought, WHY_MAX};
+use cause::{NoPlace, Said, WHY_MAX};
 use files::Filled;
 use paper::STORE;
 use records::RECORD_MAX;
@@ -22,7 +22,7 @@ const INPUT: usize = 2 * RECORD_MAX;
 const WORD: usize = 131072;
 
 // Writes the line of what is said.
-fn say(rt: &(impl Print + Eprint), said: Said, out: &mut [u8])
+fn say(rt: &(impl Print + Eprint), said: Option<Said>, out: &mut [u8])
     requires { WHY_MAX ≤ length out.old }
     ensures { length out.new ≡ length out.old }
 {
@@ -31,11 +31,11 @@ fn say(rt: &(impl Print + Eprint), said: Said, out: &mut [u8])
 }
 
 // Writes the line of what is said, if anything is. Answers whether.
-fn is_said(rt: &(impl Print + Eprint), said: Said, out: &mut [u8]) -> bool
+fn is_said(rt: &(impl Print + Eprint), said: Option<Said>, out: &mut [u8]) -> bool
     requires { WHY_MAX ≤ length out.old }
     ensures { length out.new ≡ length out.old }
 {
-    if let Said::NotYet = said {
+    if said.is_none() {
         return false;
     }
     say(rt, said, out);
@@ -81,7 +81,7 @@ fn main(rt: HostRuntime) {
         let n = files::argument(&rt, 1, &mut word);
         let sought = cause::sought_in(&word[..n]);
         let mut out = [0u8; WHY_MAX];
-        if let Sought::Place(place) = sought {
+        if let Ok(place) = sought {
             let mut store = [0u8; STORE];
             let mut buffer = [0u8; INPUT];
             search(
@@ -95,8 +95,8 @@ fn main(rt: HostRuntime) {
             return;
         }
         // No input has it.
-        if let Sought::Beyond = sought {
-            say(&rt, Said::NotYet, &mut out);
+        if let Err(NoPlace::Beyond) = sought {
+            say(&rt, None, &mut out);
             return;
         }
     }
