@@ -1,6 +1,7 @@
 -- WHY A CHANNEL IS DEAD, on one page. Each line has a statement, and where its proof is. The statements' text stands in specs/Why, over
 -- the run that the input is: Start, and then PDU by PDU what `receive` answers.
 -- Assumes nothing.
+use Rattle.std.proofs.Common.{Option, None, Some}
 use mathlib.Core.Path.{◌≡◌, sym, subst, ◌∙◌}
 use mathlib.Core.List.{List}
 use Prim.Native.Nat.{ℕ}
@@ -30,7 +31,7 @@ the_answer_there =
 
 -- what is said is one thing
 is_cause :
-    (list input : List ℕ) (place : ℕ) (cause : Cause) → SaidOf list input place cause → causes.cause list (pdus_in input) place ≡ cause
+    (list input : List ℕ) (place : ℕ) (cause : Option Cause) → SaidOf list input place cause → causes.cause list (pdus_in input) place ≡ cause
 unfolding said_of
 is_cause list input place cause s =
     let same = sym (ways.says place list (pdus_in input) s.counted s.whole) ∙ s.said in

@@ -11,14 +11,13 @@ ghost use Rattle.lists.specs.Bytes.{laid};
 ghost use Rattle.channel.specs.Stages.{took};
 ghost use Rattle.lines.specs.Lines.{LINE_MAX};
 ghost use Rattle.records.specs.Records.{whole_of};
-ghost use Rattle.records.specs.Walks.{records_of, size_of, rest_of};
-ghost use Rattle.records.specs.Pdus.{pdus_in};
-ghost use Rattle.judge.specs.Judge.{agrees, course_by, brought, course_after, course_over, judgement_on};
+ghost use Rattle.records.specs.Walks.{rest_of};
+ghost use Rattle.judge.specs.Judge.{agrees, course_by, brought, course_after, judgement_on};
 ghost use Rattle.judge.specs.Sender.{HEAD, HEAD_MAX, head_needs, is_whole, REASON_MAX, reason_field, judgement_line, line_at, turned, at_first};
 
 use channel::{Offer, Stage, Took};
 use reading::Pdu;
-use records::LENGTH;
+use records::Stand;
 
 // The bytes of the channel's number, and of number and message length.
 pub const NUMBER: usize = 4;
@@ -75,20 +74,6 @@ pub enum Judgement {
     Early,
     // Something else was handed up.
     Differs,
-}
-
-// Where a run stands between two reads: the course, and how many bytes were left.
-#[derive(Clone, Copy)]
-pub struct Stand {
-    pub course: Course,
-    pub had: usize,
-}
-
-// What a walk through records gives: the course, and how many bytes of the input it took.
-#[derive(Clone, Copy)]
-struct Walked {
-    course: Course,
-    taken: usize,
 }
 
 // Whether the block is the message's bytes from a place on.
@@ -269,7 +254,7 @@ pub fn comes_to(course: Course) -> Judgement
 }
 
 // Where a run begins: no PDU was judged, the channel is open and idle, and nothing is left.
-pub fn begin() -> Stand
+pub fn begin() -> Stand<Course>
     ensures { result ≡ at_first }
 {
     Stand {
@@ -282,42 +267,15 @@ pub fn begin() -> Stand
     }
 }
 
-// Walks through the whole records at the front of the input.
-fn walk(number: u32, message: &[u8], course: Course, input: &[u8]) -> Walked
-    ensures course_value { result.course ≡ course_over number message.now course (pdus_in input.now) }
-    ensures taken_value { (result.taken ≡ size_of (records_of whole_of input.now)) × (result.taken ≤ length input.now) }
-{
-    let mut next = course;
-    let mut at = 0;
-    while at < input.len() {
-        let n = records::whole(&input[at..]);
-        if n == 0 {
-            break;
-        }
-        let end = at + n;
-        next = judge(number, message, next, &input[at + LENGTH..end]);
-        at = end;
-    }
-    Walked {
-        course: next,
-        taken: at,
-    }
-}
-
 // Judges the whole records of the input that is there, what was left and behind it what was read. What is left then comes to
 // the front.
-pub fn turn(number: u32, message: &[u8], course: Course, input: &mut [u8]) -> Stand
+pub fn turn(number: u32, message: &[u8], course: Course, input: &mut [u8]) -> Stand<Course>
     ensures value { (result ≡ turned number message.now course input.old) × (result.had ≤ length input.old) }
     ensures input_after { input.new ≡ laid input.old 0 (rest_of whole_of input.old) }
 {
-    let walked = walk(number, message, course, input);
-    let taken = walked.taken;
-    lists::to_front(input, taken);
-    let course = walked.course;
-    Stand {
-        course,
-        had: input.len() - taken,
-    }
+    records::turn(course, &mut [], input, |course, _, pdu| {
+        judge(number, message, course, pdu)
+    })
 }
 
 // How many bytes stand before the PDUs, as far as those that are there can tell.

@@ -7,3 +7,4 @@ pub mod Desk
 pub mod Pieces
 pub mod One
 pub mod Found
+pub mod Calls

@@ -188,8 +188,10 @@ fn show(rt: &(impl Print + Eprint), input: &[u8]) -> Result<(), Failed>
 {
     let mut rest = input;
     while !rest.is_empty() {
-        let size = records::whole(rest);
-        if size <= records::LENGTH {
+        let Some(size) = records::whole(rest) else {
+            return files::write(rt, b"cut\n");
+        };
+        if size == records::LENGTH {
             return files::write(rt, b"cut\n");
         }
         let from_server = rest[records::LENGTH] == b's';

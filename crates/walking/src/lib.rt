@@ -7,9 +7,10 @@
 // reads, and a turn with nothing new is the end of the input. Both take anything, and neither refuses.
 #![tactic(auto)]
 
-ghost use Rattle.std.specs.Prelude.{◌≡◌, ℕ, ◌≤◌, List, length};
+ghost use Rattle.std.specs.Prelude.{◌≡◌, ℕ, ◌<◌, ◌≤◌, List, length, IfSome};
 ghost use Rattle.lists.specs.Bytes.{laid};
 ghost use Rattle.lines.specs.Lines.{LINE_MAX};
+ghost use Rattle.records.specs.Records.{found};
 ghost use Rattle.records.specs.Walks.{walk_through, turned, walked, ended};
 ghost use Rattle.client.specs.Client.{Whole};
 ghost use Rattle.walking.specs.declared.Job.TheVariants.{Client, Strict, Desk, Link};
@@ -92,9 +93,11 @@ struct Walked {
     laid: usize,
 }
 
-// How many bytes the record at the front has, or 0 where no whole record stands there.
-fn extent_for(job: Job, input: &[u8]) -> usize
-    ensures { result ≡ extent_for job input.now }
+// How many bytes the record at the front has, where a whole record stands there.
+#[tactic(auto, unfolding(crate::specs::Walking::extent_for))]
+fn extent_for(job: Job, input: &[u8]) -> Option<usize>
+    ensures value { result ≡ found (extent_for job input.now) }
+    ensures within { IfSome result (λ n. (0 < n) × (n ≤ length input.now)) }
 {
     match job {
         Job::Client(_) => records::whole(input),
@@ -404,10 +407,9 @@ fn walk(job: Job, kept: Kept, store: &mut [u8], list: &[u8], input: &[u8], out: 
     let mut at = 0;
     let mut used = 0;
     while room <= out.len() - used {
-        let n = extent_for(job, &input[at..]);
-        if n == 0 {
+        let Some(n) = extent_for(job, &input[at..]) else {
             break;
-        }
+        };
         let end = at + n;
         let stepped = step(job, next, store, list, &input[at..end], &mut out[used..]);
         next = stepped.kept;

@@ -6,7 +6,7 @@
 // and the text of the line are the work of `cause`.
 #![tactic(auto)]
 
-use cause::{Said, Sought, WHY_MAX};
+use cause::{NoPlace, Said, WHY_MAX};
 use files::Failed;
 use paper::STORE;
 use records::RECORD_MAX;
@@ -20,7 +20,7 @@ const INPUT: usize = 2 * RECORD_MAX;
 const WORD: usize = 131072;
 
 // Writes the line of what is said.
-fn say(rt: &(impl Print + Eprint), said: Said) -> Result<(), Failed> {
+fn say(rt: &(impl Print + Eprint), said: Option<Said>) -> Result<(), Failed> {
     let mut out = [0u8; WHY_MAX];
     let laid = cause::say(&mut out, said);
     files::write(rt, &out[..laid])
@@ -35,7 +35,7 @@ fn search<R: Read>(rt: &(impl Print + Eprint), reader: &mut R, place: u64) -> Re
     // A proved loop has to end, and nothing says that an input does: a count that no run uses up.
     for _ in 0..u64::MAX {
         let said = stand.course.said;
-        if !matches!(said, Said::NotYet) {
+        if said.is_some() {
             return say(rt, said);
         }
         let end = files::fill(rt, reader, b"standard input", &mut buffer, stand.had)?;
@@ -49,27 +49,27 @@ fn search<R: Read>(rt: &(impl Print + Eprint), reader: &mut R, place: u64) -> Re
 }
 
 // What is sought, by the program's one argument.
-fn asked(rt: &impl Env) -> Sought {
+fn asked(rt: &impl Env) -> Result<u64, NoPlace> {
     if files::arguments(rt) != 1 {
-        return Sought::NoPlace;
+        return Err(NoPlace::NoDigits);
     }
     let mut word = [0u8; WORD];
     match files::argument(rt, 1, &mut word) {
         Some(n) => cause::sought_in(&word[..n]),
-        None => Sought::NoPlace,
+        None => Err(NoPlace::NoDigits),
     }
 }
 
 fn main(rt: HostRuntime) {
     match asked(&rt) {
-        Sought::Place(place) => {
+        Ok(place) => {
             let _ = search(&rt, &mut rt.reader(), place);
         }
         // No input has it.
-        Sought::Beyond => {
-            let _ = say(&rt, Said::NotYet);
+        Err(NoPlace::Beyond) => {
+            let _ = say(&rt, None);
         }
-        Sought::NoPlace => files::complain(
+        Err(NoPlace::NoDigits) => files::complain(
             &rt,
             b"why: call it as `why PLACE`, a place from 0 on in digits, with the walker's input on standard input\n",
         ),
