@@ -8,5 +8,5 @@ use Rattle.table.specs.Sound.{is_staged, every}
 use Rattle.table.proofs.stages.Given as goal
 
 abbrev pub invariant-loop-record : goal.invariant-loop-record
-invariant-loop-record l = (length l.table.records ≡ PARTS) × (every is_staged l.table.records ≡ every is_staged (drop l.record-index l.table.records))
-    × (l.awaited + total awaits (drop l.record-index l.table.records) ≡ total awaits l.table.records) × (l.awaited ≤ 4096 * l.record-index)
+invariant-loop-record l = (length l.fn.table.records ≡ PARTS) × (every is_staged l.fn.table.records ≡ every is_staged (drop l.record-index l.fn.table.records))
+    × (l.awaited + total awaits (drop l.record-index l.fn.table.records) ≡ total awaits l.fn.table.records) × (l.awaited ≤ 4096 * l.record-index)
