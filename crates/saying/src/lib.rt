@@ -1,7 +1,7 @@
 // The text of lines of the shore end, and of both ends.
 //
 // `Told` is what the shore says, with the fields of the client's answer.
-//// `desk_header` and `desk_line` lay the lines of the shore's walker, `link_header`, `end_word`, `dropped_line` and `bad_line`
+// `desk_header` and `desk_line` lay the lines of the shore's walker, `link_header`, `end_word`, `dropped_line` and `bad_line`
 // what both ends in one process have beside them. Each lays its bytes at the front of a buffer and answers how many there are. Bytes of the
 // buffer behind them stay. A buffer that is too short gets as much as it has room for.
 #![tactic(auto)]
