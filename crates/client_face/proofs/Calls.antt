@@ -62,7 +62,7 @@ good_state l e = both (is_state CLIENT false l) (sound_table (table_in l)) e
 -- ---- refusal 1
 
 -- of a state, the library's
-pub bad_call_law : (l : List ℕ) (store reply : ℕ) → is_state CLIENT false l ≡ true → bad_face l store reply ≡ bad_call (table_in l) store reply
+pub bad_call_law : (l : List ℕ) (store reply : ℕ) → is_state CLIENT false l ≡ true → bad_face CLIENT false l store reply ≡ bad_call (table_in l) store reply
 unfolding bad_face bad_call is_good
 bad_call_law l store reply e = rw e
 
@@ -82,7 +82,7 @@ unfolding faced whole_of place_for concern_of laid no_state
 state_refused l store reply w h e r = rw (r, e, state_own l h e)
 
 pub face_refuses :
-    (l store reply : List ℕ) (event : Event) → Bytes l → bad_face l (length store) (length reply) ≡ true
+    (l store reply : List ℕ) (event : Event) → Bytes l → bad_face CLIENT false l (length store) (length reply) ≡ true
     → faces l store event reply ≡ record { answer = no_state; state = l; store = store; reply = reply }
 unfolding faces
 face_refuses l store reply event h bad = go (is_state CLIENT false l) refl
@@ -99,7 +99,7 @@ face_refuses l store reply event h bad = go (is_state CLIENT false l) refl
 
 -- what isn't refused so
 pub face_proper :
-    (l : List ℕ) (store reply : ℕ) → bad_face l store reply ≡ false → (store ≡ STORE) × (is_good CLIENT false l ≡ true)
+    (l : List ℕ) (store reply : ℕ) → bad_face CLIENT false l store reply ≡ false → (store ≡ STORE) × (is_good CLIENT false l ≡ true)
 unfolding bad_face
 face_proper l store reply e =
     let first = neither (not (eqb store STORE)) (ltb reply REPLY_MIN || not (is_good CLIENT false l)) e in
@@ -123,7 +123,7 @@ unfolding faced whole_of faced_of
 whole_faced l store reply w s e r = rw (r, e)
 
 pub face_passes :
-    (l store reply : List ℕ) (event : Event) → bad_face l (length store) (length reply) ≡ false
+    (l store reply : List ℕ) (event : Event) → bad_face CLIENT false l (length store) (length reply) ≡ false
     → faces l store event reply ≡ faced_of reply (stepped (state_of (table_in l) store) event)
 unfolding faces
 face_passes l store reply event bad =

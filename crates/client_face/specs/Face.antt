@@ -61,10 +61,10 @@ dvc_started state store = begins CLIENT (started store).table state store
 
 -- ---- the same, as the code has it. Nobody need believe what follows: proofs/Calls shows that it is so.
 
--- refusal 1: store or reply is not of its size, the bytes are no state of the client, or the table is unsound
-unfoldable pub bad_face : List ℕ → ℕ → ℕ → Bool
-bad_face state storeSize replySize =
-    not (eqb storeSize STORE) || (ltb replySize REPLY_MIN || not (is_good CLIENT false state))
+-- refusal 1: store or reply is not of its size, the bytes are no state of the end with this mark, or the table is unsound
+unfoldable pub bad_face : ℕ → Bool → List ℕ → ℕ → ℕ → Bool
+bad_face mark asks state storeSize replySize =
+    not (eqb storeSize STORE) || (ltb replySize REPLY_MIN || not (is_good mark asks state))
 
 -- a function gives a step: its answer, and every byte of the state, the store and the reply buffer
 pub record Gives (s : Stepped) (reply : List ℕ) (r : ℕ) (stateAfter storeAfter replyAfter : List ℕ) : Type 0 where

@@ -21,9 +21,10 @@ use client::Asked;
 use deciding::Matter;
 use paper::{PARTS, Refusal};
 
-// Refusal 1: the store or the reply buffer is not of its size, the bytes are no state of this end, or the table is unsound.
-fn bad(state: &[u8], store: usize, reply: usize) -> bool
-    ensures { result ≡ bad_face state.now store reply }
+// Refusal 1: the store or the reply buffer is not of its size, the bytes are no state of the end with this mark, or the table is
+// unsound. Only the shore asks.
+pub fn bad(mark: u32, asks: bool, state: &[u8], store: usize, reply: usize) -> bool
+    ensures { result ≡ bad_face mark asks state.now store reply }
 {
     if store != paper::STORE {
         return true;
@@ -31,7 +32,7 @@ fn bad(state: &[u8], store: usize, reply: usize) -> bool
     if reply < paper::REPLY_MIN {
         return true;
     }
-    !saved::good(state, saved::CLIENT, false)
+    !saved::good(state, mark, asks)
 }
 
 fn refused() -> u64
@@ -99,7 +100,7 @@ fn call(
     ensures reply_after { reply.new ≡ (faces state.old store.old
         (event_asked asked pdu.now) reply.old).reply }
 {
-    if bad(state, store.len(), reply.len()) {
+    if bad(saved::CLIENT, false, state, store.len(), reply.len()) {
         return refused();
     }
     taken(
@@ -127,7 +128,7 @@ pub extern "C" fn dvc_start(state: &mut [u8], store: &mut [u8]) -> u32
     let begun = started.begun;
     match begun {
         Ok(()) => {
-            saved::begin(state, 67);
+            saved::begin(state, saved::CLIENT as u8);
             0
         }
         Err(_) => 1,

@@ -31,8 +31,8 @@ use Rattle.saved.specs.Saved.{STATE, SHORE, is_saved, unasked, is_state, is_good
 use Rattle.saved.proofs.Back.{told_saved}
 use Rattle.saved.proofs.Putting.{begin_over_law}
 use Rattle.packing.specs.Packing.{answer_word, said_word, answer_place, said_place, packed_answer, packed_said}
-use Rattle.client_face.specs.Face.{no_state, begins}
-use Rattle.shore_face.specs.Face.{shore_in, saved_shore, faced, wrote, bad_face, bad_out_face, Gives, faces}
+use Rattle.client_face.specs.Face.{no_state, begins, bad_face}
+use Rattle.shore_face.specs.Face.{shore_in, saved_shore, faced, wrote, bad_out_face, Gives, faces}
 use Rattle.shore_face.specs.Face.{dvc_shore_received, dvc_shore_closed, dvc_shore_started}
 
 -- both ends say refusal 1 alike
@@ -52,7 +52,7 @@ unfolding saved_shore shore_in is_state
 as_told l bytes s = sym (told_saved SHORE l bytes (both (is_saved SHORE l) (true || unasked l) s).0)
 
 -- of such bytes refusal 1 is the library's
-same_bad : (l : List ℕ) (a b : ℕ) → is_state SHORE true l ≡ true → bad_face l a b ≡ bad_call (shore_in l).table a b
+same_bad : (l : List ℕ) (a b : ℕ) → is_state SHORE true l ≡ true → bad_face SHORE true l a b ≡ bad_call (shore_in l).table a b
 unfolding bad_face bad_call is_good shore_in
 same_bad l a b s = rw s
 
@@ -63,7 +63,7 @@ same_bad_out l a s = rw s
 -- ---- a call that is lent the store and the reply
 
 -- one that refusal 1 doesn't meet
-pub fair : (l : List ℕ) (a b : ℕ) → bad_face l a b ≡ false → (a ≡ STORE) × (is_good SHORE true l ≡ true)
+pub fair : (l : List ℕ) (a b : ℕ) → bad_face SHORE true l a b ≡ false → (a ≡ STORE) × (is_good SHORE true l ≡ true)
 unfolding bad_face
 fair l a b e =
     let first = neither (not (eqb a STORE)) (ltb b REPLY_MIN || not (is_good SHORE true l)) e in
@@ -73,7 +73,7 @@ fair l a b e =
 module _ (l store reply : List ℕ) (event : Event) where
   -- it is the step's
   pub face_gives_law :
-      (r : ℕ) (stateAfter storeAfter replyAfter : List ℕ) → bad_face l (length store) (length reply) ≡ false
+      (r : ℕ) (stateAfter storeAfter replyAfter : List ℕ) → bad_face SHORE true l (length store) (length reply) ≡ false
       → Gives (stepped (standing (shore_in l) store) event) reply r stateAfter storeAfter replyAfter
       → (r ≡ (faces l store event reply).answer)
       × ((stateAfter ≡ (faces l store event reply).state)
@@ -86,7 +86,7 @@ module _ (l store reply : List ℕ) (event : Event) where
 
   -- where refusal 1 meets it every byte stays
   pub face_refuses :
-      (r : ℕ) → Bytes l → bad_face l (length store) (length reply) ≡ true → r ≡ no_state
+      (r : ℕ) → Bytes l → bad_face SHORE true l (length store) (length reply) ≡ true → r ≡ no_state
       → (r ≡ (faces l store event reply).answer)
       × ((l ≡ (faces l store event reply).state) × ((store ≡ (faces l store event reply).store) × (reply ≡ (faces l store event reply).reply)))
   unfolding faces faced whole_of laid place_for concern_said

@@ -69,11 +69,7 @@ dvc_shore_started state store = begins SHORE (started store).shore.table state s
 
 -- ---- the same, as the code has it. Nobody need believe what follows: proofs/Calls shows that it is so.
 
--- refusal 1: store or reply is not of its size, the bytes are no state of the shore, or the table is unsound
-unfoldable pub bad_face : List ℕ → ℕ → ℕ → Bool
-bad_face state storeSize replySize = not (eqb storeSize STORE) || (ltb replySize REPLY_MIN || not (is_good SHORE true state))
-
--- and where a PDU is written
+-- refusal 1 where a PDU is written: its buffer in place of store and reply
 unfoldable pub bad_out_face : List ℕ → ℕ → Bool
 bad_out_face state size = ltb size PDU_MAX || not (is_good SHORE true state)
 

@@ -14,7 +14,7 @@ ghost use Rattle.saved.specs.Saved.{STATE, SHORE, table_in, is_good};
 ghost use Rattle.packing.specs.Packing.{packed_said};
 ghost use Rattle.client_face.specs.Face.{no_state};
 ghost use Rattle.shore_face.specs.Face.{shore_in, dvc_shore_received, dvc_shore_closed, dvc_shore_requested, dvc_shore_opened, dvc_shore_started};
-ghost use Rattle.shore_face.specs.Face.{bad_face, bad_out_face, Gives, faces};
+ghost use Rattle.shore_face.specs.Face.{bad_out_face, Gives, faces};
 
 use channel::Change;
 use client::Asked;
@@ -22,20 +22,7 @@ use paper::{PARTS, PDU_MAX, Refusal};
 use reading::Charges;
 use shore::{Matter, Said};
 
-// Refusal 1: the store or the reply buffer is not of its size, the bytes are no state of this end, or the table is unsound.
-fn bad(state: &[u8], store: usize, reply: usize) -> bool
-    ensures { result ≡ bad_face state.now store reply }
-{
-    if store != paper::STORE {
-        return true;
-    }
-    if reply < paper::REPLY_MIN {
-        return true;
-    }
-    !saved::good(state, saved::SHORE, true)
-}
-
-// The same where a PDU is written: its buffer in place of the two.
+// Refusal 1 where a PDU is written: its buffer in place of store and reply.
 fn bad_out(state: &[u8], room: usize) -> bool
     ensures { result ≡ bad_out_face state.now room }
 {
@@ -115,7 +102,7 @@ fn call(
     ensures reply_after { reply.new ≡ (faces state.old store.old
         (event_asked asked pdu.now) reply.old).reply }
 {
-    if bad(state, store.len(), reply.len()) {
+    if client_face::bad(saved::SHORE, true, state, store.len(), reply.len()) {
         return refused();
     }
     taken(
@@ -142,7 +129,7 @@ pub extern "C" fn dvc_shore_start(state: &mut [u8], store: &mut [u8]) -> u32
     let begun = shore::start(store).begun;
     match begun {
         Ok(()) => {
-            saved::begin(state, 83);
+            saved::begin(state, saved::SHORE as u8);
             0
         }
         Err(_) => 1,
