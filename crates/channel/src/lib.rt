@@ -66,7 +66,8 @@ pub enum Answer {
     Refused { why: Refusal, concern: Option<u32> },
 }
 
-// What a data PDU offers beside its block: a Length, or more of the message.
+// What a data PDU offers beside its block: a Length, or more of the message. The names say which PDU brings the block, as an
+// option's would not.
 #[derive(Clone, Copy)]
 pub enum Offer {
     First(u32),
@@ -236,7 +237,7 @@ pub fn class_at(level: u8, pri: u8) -> u8
 
 // The record of a channel just opened.
 #[tactic(auto, unfolding(crate::specs::Channel::opened_record))]
-fn opened(level: u8, number: u32, pri: u8) -> Record
+pub fn opened(level: u8, number: u32, pri: u8) -> Record
     ensures { result ≡ opened_record level number pri }
 {
     let class = class_at(level, pri) as u32;

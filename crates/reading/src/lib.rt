@@ -51,7 +51,8 @@ pub struct Charges {
     pub class3: u16,
 }
 
-// What reading answers.
+// What reading answers: one enum of the kinds, with the refusal as one case more, since its promises say the paper's number and
+// values for each case.
 #[derive(Clone, Copy)]
 pub enum Pdu {
     // From the server. The name is without its zero byte; class is Pri, whatever the level.
@@ -437,7 +438,7 @@ pub fn carries(pdu: &[u8]) -> Option<u32>
     None
 }
 
-// The number of an answer's refusal, or 0 where it is none.
+// The number of an answer's refusal, or 0 where it is none: what the C face answers and the lines of a run print.
 pub fn verdict(answer: Pdu) -> u8
     ensures { result ≡ verdict_number (verdict_on answer) }
 {

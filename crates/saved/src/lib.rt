@@ -36,7 +36,7 @@ const CHANNELS: usize = 196;
 
 const AWAITED: usize = 200;
 
-// The marks of the ends.
+// The marks of the ends. Numbers, since `good` takes any mark.
 pub const CLIENT: u32 = 67;
 
 pub const SHORE: u32 = 83;

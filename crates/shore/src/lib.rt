@@ -293,12 +293,10 @@ fn settled(row: Record) -> Record
     ensures { result ≡ settled_record row }
 {
     Record {
-        number: row.number,
         stage: Stage::Idle,
-        taken: row.taken,
         awaited: false,
-        class: row.class,
         count: 0,
+        ..row
     }
 }
 
@@ -621,14 +619,9 @@ fn least_number(table: Table) -> u32
 pub fn awaited(level: u8, number: u32, class: u8) -> Record
     ensures { result ≡ awaited_record level number class }
 {
-    let class = channel::class_at(level, class) as u32;
     Record {
-        number,
-        stage: Stage::Idle,
-        taken: true,
         awaited: true,
-        class,
-        count: 0,
+        ..channel::opened(level, number, class)
     }
 }
 

@@ -39,7 +39,7 @@ pub enum Told {
     Totals,
 }
 
-// What a walk is for.
+// What a walk is for. A job is data: the definitions go over all jobs, so each step is a match on it and no closure.
 #[derive(Clone, Copy)]
 pub enum Job {
     // The client's step for each record.

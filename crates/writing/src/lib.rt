@@ -51,6 +51,7 @@ fn bad_version(version: u16) -> bool
     3 < version
 }
 
+// Field by field: a charge of each class is its own at the C interface.
 fn all_zero(charges: Charges) -> bool
     ensures { result ≡ all_zero charges }
 {
