@@ -4,7 +4,7 @@
 // holds gives the refusal. `read_strict` refuses more, last: a number or Length that a narrower width would hold, and
 // ignored bits that are set. Both stand on the same stages, `find` and those before it, in that order, each with a
 // definition of its own name in specs/Reading; what strict reading adds to them is in specs/Strict. `carries` tells whose a
-// block of data is that reading refuses.
+// block of data is that reading refuses. `charges_at` reads four charges wherever they stand.
 #![tactic(auto)]
 
 ghost use Rattle.std.specs.Prelude.{◌≡◌, false, ◌||◌, ◌+◌, ◌≤◌, length};
@@ -12,7 +12,7 @@ ghost use Rattle.paper.specs.Rows.{verdict_number};
 ghost use Rattle.numbers.specs.Numbers.{wide_at, measured_at};
 ghost use Rattle.reading.specs.Reading.{read_pdu, by_command, numbered, bad_length_width, after_number};
 ghost use Rattle.reading.specs.Reading.{create_request, create_response, data_first, closing};
-ghost use Rattle.reading.specs.Reading.{capabilities, by_version, charged};
+ghost use Rattle.reading.specs.Reading.{capabilities, by_version, charges_at, charged};
 ghost use Rattle.reading.specs.declared.Pdu.TheVariants.{Refused};
 ghost use Rattle.reading.specs.Garbled.{brings_block, whole_in, carries};
 ghost use Rattle.reading.specs.Said.{bytes_at, verdict_on};
@@ -266,6 +266,19 @@ fn numbered(pdu: &[u8], from_server: bool, cmd: u8, middle: u8, cb_id: u8) -> Fo
     )
 }
 
+// The four charges from a place on, two bytes each. Where the bytes end before, a charge is the number of those that are there.
+pub fn charges_at(bytes: &[u8], at: u16) -> Charges
+    ensures { result ≡ charges_at bytes.now at }
+{
+    let at = at as usize;
+    Charges {
+        class0: numbers::short_at(bytes, at),
+        class1: numbers::short_at(bytes, at + 2),
+        class2: numbers::short_at(bytes, at + 4),
+        class3: numbers::short_at(bytes, at + 6),
+    }
+}
+
 // A Capabilities request of a good version: versions 2 and 3 have four charges.
 fn charged(pdu: &[u8], version: u16) -> Pdu
     ensures { result ≡ charged pdu.now version }
@@ -288,12 +301,7 @@ fn charged(pdu: &[u8], version: u16) -> Pdu
     if 12 < pdu.len() {
         return Pdu::Refused(Refusal::BadField);
     }
-    let charges = Charges {
-        class0: numbers::short_at(pdu, 4),
-        class1: numbers::short_at(pdu, 6),
-        class2: numbers::short_at(pdu, 8),
-        class3: numbers::short_at(pdu, 10),
-    };
+    let charges = charges_at(pdu, 4);
     Pdu::CapsRequest { version, charges }
 }
 
