@@ -95,6 +95,7 @@ fn noted(notes: [Note; PARTS], note: Note, before: Table, after: Table) -> [Note
     ensures { result ≡ noted_from 0 note before after notes }
 {
     let mut next = notes;
+    // The index goes over the records of two tables and the notes at once: iterators put side by side have as many lines.
     for i in 0..PARTS {
         let was = before.records[i];
         let is = after.records[i];
@@ -120,7 +121,7 @@ fn notes_after(
     noted(notes, Note { place, why }, before, after)
 }
 
-// The note of a record.
+// The note of a record. A place of sixteen is no record, as the table's search has it; its note says nothing.
 fn note_at(notes: [Note; PARTS], k: usize) -> Note
     ensures { result ≡ note_at notes k }
 {
@@ -236,7 +237,7 @@ fn onward(sought: u64, course: Course, list: &[u8], pdu: &[u8], received: Receiv
     Course {
         table,
         notes: notes_after(course.place, answer, before, table, notes),
-        place: std::num::wrapping_add_u64(course.place, 1),
+        place: course.place.wrapping_add(1),
         said,
     }
 }

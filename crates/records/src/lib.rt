@@ -19,7 +19,8 @@ ghost use Rattle.records.specs.Calls.{Calls};
 // The bytes of a record's length.
 pub const LENGTH: usize = 2;
 
-// The lengths that announce no PDU in a record of the desk: the host's request, its local open and its local close.
+// The lengths that announce no PDU in a record of the desk: the host's request, its local open and its local close. What a record
+// announces, and the byte that leads one, are numbers of the input's format, and the definitions compare numbers: no enum.
 pub const REQUEST: u32 = 65533;
 
 pub const OPEN: u32 = 65534;
@@ -54,7 +55,7 @@ pub const MESSAGE_HEAD: usize = LEAD + 4 + 2;
 // announce.
 pub const RECORD_MAX: usize = MESSAGE_HEAD + 65535 + 1;
 
-// What a walk waits for.
+// What a walk waits for: three states, not the shape of an option.
 #[derive(Clone, Copy)]
 pub enum Due {
     // More bytes, behind those that are left.
@@ -191,6 +192,7 @@ fn walk<C, F: Fn(C, &mut [u8], &[u8]) -> C>(
 {
     let mut next = course;
     let mut rest = input;
+    // Records have varying sizes: no iterator of the library's goes from one to the next.
     while let Some(n) = whole(rest) {
         let (record, behind) = rest.split_at(n);
         next = step(next, lent, &record[LENGTH..]);

@@ -216,7 +216,8 @@ fn data_in(stage: Stage, len: usize) -> Option<Rule>
     None
 }
 
-// The same where the channel was looked for: the rules behind the one on when.
+// The same where the channel was looked for: the rules behind the one on when. A place of sixteen is no record, as the table's search has
+// it. The two have one test in common, and each contract names its own rows: one function for both has more lines.
 fn first_found(place: usize, stage: Stage, length: u32, len: usize) -> Option<Rule>
     ensures { (t : Table) (list : List ℕ) (n : ℕ) (block : Extent)
         → place ≡ number_place n t → stage_of t n ≡ stage → block.len ≡ len
