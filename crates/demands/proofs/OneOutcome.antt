@@ -3,7 +3,7 @@
 -- it (`Reads.Post`), so that a loosened `ensures` breaks it; it stands in its crate's proofs/One and is only collected here.
 -- Assumes nothing.
 pub use Rattle.paper.proofs.One.{refusal_number_one as paper-refusal-number-one}
-pub use Rattle.lists.proofs.One.{lesser_one as lists-lesser-one, copy_one as lists-copy-one, copy_at_one as lists-copy-at-one, to_front_one as lists-to-front-one, clear_one as lists-clear-one, first_of_one as lists-first-of-one, first_zero_one as lists-first-zero-one}
+pub use Rattle.lists.proofs.One.{copy_one as lists-copy-one, copy_at_one as lists-copy-at-one, to_front_one as lists-to-front-one, clear_one as lists-clear-one, first_of_one as lists-first-of-one, first_zero_one as lists-first-zero-one}
 pub use Rattle.numbers.proofs.One.{width_one as numbers-width-one, code_one as numbers-code-one, narrow_one as numbers-narrow-one, four_one as numbers-four-one, joined_one as numbers-joined-one, split_one as numbers-split-one, number_one as numbers-number-one, short_at_one as numbers-short-at-one, measure_one as numbers-measure-one, put_one as numbers-put-one, signed_one as numbers-signed-one, unsigned_one as numbers-unsigned-one, status_one as numbers-status-one, status_bytes_one as numbers-status-bytes-one}
 pub use Rattle.reading.proofs.One.{read_one as reading-read-one, read_strict_one as reading-read-strict-one, carries_one as reading-carries-one, charges_at_one as reading-charges-at-one, verdict_one as reading-verdict-one, dvc_strict_one as reading-dvc-strict-one}
 pub use Rattle.laying.proofs.One.{create_request_one as laying-create-request-one, create_response_one as laying-create-response-one, data_first_one as laying-data-first-one, data_one as laying-data-one, close_one as laying-close-one, capabilities_request_one as laying-capabilities-request-one, capabilities_response_one as laying-capabilities-response-one}

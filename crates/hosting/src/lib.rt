@@ -19,7 +19,7 @@ use shore::{Given, Sending, Shore};
 pub fn announces(bytes: &[u8]) -> u32
     ensures { result ≡ announced bytes.now }
 {
-    let end = lists::lesser(LENGTH, bytes.len());
+    let end = LENGTH.min(bytes.len());
     numbers::number(&bytes[..end])
 }
 
@@ -73,7 +73,7 @@ fn opens(shore: Shore, bytes: &[u8], buffer: &mut [u8]) -> Given
     ensures value { result ≡ storeless (locally_opened shore (name_in bytes.now) (class_in bytes.now) buffer.old).result }
     ensures buffer_after { buffer.new ≡ (locally_opened shore (name_in bytes.now) (class_in bytes.now) buffer.old).out }
 {
-    let from = lists::lesser(OPEN_HEAD, bytes.len());
+    let from = OPEN_HEAD.min(bytes.len());
     bare(shore::open(shore, &bytes[from..], class_in(bytes), buffer))
 }
 
@@ -90,7 +90,7 @@ pub fn hosted(shore: Shore, store: &mut [u8], bytes: &[u8], buffer: &mut [u8]) -
     if announced == OPEN {
         return opens(shore, bytes, buffer);
     }
-    let from = lists::lesser(LENGTH, bytes.len());
+    let from = LENGTH.min(bytes.len());
     if announced == CLOSE {
         let number = numbers::number(&bytes[from..]);
         return shore::local_close(shore, store, number, buffer);

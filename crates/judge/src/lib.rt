@@ -83,7 +83,7 @@ fn agrees(message: &[u8], from: usize, block: &[u8]) -> bool
     if message.len() <= from {
         return block.len() == 0;
     }
-    let n = lists::lesser(block.len(), message.len() - from);
+    let n = block.len().min(message.len() - from);
     check::same(&message[from..from + n], block)
 }
 

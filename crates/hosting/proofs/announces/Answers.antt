@@ -7,4 +7,4 @@ pub returns : goal.returns
 unfolding announced
 returns c =
     let bytes = c.args.bytes.now in
-    rw (c.lesser-end.ensures, take_least 2 bytes) at c.number.ensures
+    rw (c.min-end.ensures, take_least 2 bytes) at c.number.ensures

@@ -28,7 +28,7 @@ unfolding hosted
 returns-then-announced-eq-CLOSE c =
     let it = c.announces-announced.ensures in
     let a = c.args in
-    let number = c.number-number.ensures ∙ ap value_of (rest_lent a.bytes.now 2 _ c.lesser-from.ensures) in
+    let number = c.number-number.ensures ∙ ap value_of (rest_lent a.bytes.now 2 _ c.min-from.ensures) in
     let no = rw it at c.if-announced-eq-REQUEST.false in
     let no2 = rw it at c.if-announced-eq-OPEN.false in
     let yes = rw it at c.if-announced-eq-CLOSE.true in
@@ -43,5 +43,5 @@ returns c =
     let no = rw it at c.if-announced-eq-REQUEST.false in
     let no2 = rw it at c.if-announced-eq-OPEN.false in
     let no3 = rw it at c.if-announced-eq-CLOSE.false in
-    let did = rw (rest_lent a.bytes.now 2 _ c.lesser-from.ensures) at c.receive.ensures in
+    let did = rw (rest_lent a.bytes.now 2 _ c.min-from.ensures) at c.receive.ensures in
     rw (ne_eqb _ _ no, ne_eqb _ _ no2, ne_eqb _ _ no3) (record { value = did.value; store_after = did.store_after; buffer_after = did.reply_after })

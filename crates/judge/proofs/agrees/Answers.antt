@@ -13,5 +13,5 @@ pub returns : goal.returns
 unfolding agrees
 returns c =
     let a = c.args in
-    let part = some_left a.message.now a.from a.block.now _ c.lesser-n.ensures in
+    let part = some_left a.message.now a.from a.block.now _ c.min-n.ensures in
     rw (← part) (compared _ _ _ c.same.ensures.0 c.same.ensures.1)
