@@ -156,7 +156,13 @@ fn same(buffer: &[u8], n: usize, pdu: &[u8]) -> bool
 }
 
 // The line's last word, from a place on, by what a writer answered and left in its buffer. Answers its length.
-fn word(out: &mut [u8], at: usize, answer: Result<usize, Refusal>, buffer: &[u8], pdu: &[u8]) -> usize
+fn word(
+    out: &mut [u8],
+    at: usize,
+    answer: Result<usize, Refusal>,
+    buffer: &[u8],
+    pdu: &[u8],
+) -> usize
     ensures value { (result ≡ length (word_for answer buffer.now pdu.now)) × (result ≤ 9) }
     ensures out_after { out.new ≡ laid out.old at
         (word_for answer buffer.now pdu.now) }

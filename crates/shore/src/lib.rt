@@ -558,10 +558,7 @@ fn unsent(shore: Shore, why: Refusal) -> Sending
 {
     Sending {
         shore,
-        said: Said::Refused {
-            why,
-            concern: None,
-        },
+        said: Said::Refused { why, concern: None },
         sent: 0,
     }
 }
