@@ -193,6 +193,7 @@ fn show(rt: &(impl Print + Eprint), input: &[u8]) -> Result<(), Failed>
     ensures { input.now ≡ input.now }
 {
     let mut rest = input;
+    // Records have varying sizes.
     while !rest.is_empty() {
         let Some(size) = records::whole(rest) else {
             return files::write(rt, b"cut\n");
