@@ -12,9 +12,9 @@ pub message_one : (κs : _) (a : _) (r r' : _) (s s' : _) → message.Post κs a
     → (r ≡ r') × (s.0.now ≡ s'.0.now)
 message_one κs a r r' s s' p q = (same p.0.0 q.0.0, same p.1 q.1)
 
-pub handed_one : (κs : _) (g : _) (h : _) (a : _) (r r' : _) (s s' : _) → handed.Post κs g h a r s → handed.Post κs g h a r' s'
+pub handed_one : (κs g h b c e d l a : _) (r r' : _) (s s' : _) → handed.Post κs g h b c e d l a r s → handed.Post κs g h b c e d l a r' s'
     → (r ≡ r') × (s.0.now ≡ s'.0.now)
-handed_one κs g h a r r' s s' p q = (same p.0.0 q.0.0, same p.1 q.1)
+handed_one κs g h b c e d l a r r' s s' p q = (same p.0.0 q.0.0, same p.1 q.1)
 
 pub of_answer_one : (κs : _) (a : _) (r r' : _) (s s' : _) → of-answer.Post κs a r s → of-answer.Post κs a r' s'
     → (r ≡ r') × (s.0.now ≡ s'.0.now)

@@ -41,9 +41,9 @@ pub answer_one : (κs : _) (a : _) (r r' : _) (s s' : _) → answer.Post κs a r
     → (r ≡ r') × (s.0.now ≡ s'.0.now)
 answer_one κs a r r' s s' p q = (same p.0.0 q.0.0, same p.1 q.1)
 
-pub answer_line_one : (κs : _) (g : _) (h : _) (a : _) (r r' : _) (s s' : _) → answer-line.Post κs g h a r s → answer-line.Post κs g h a r' s'
+pub answer_line_one : (κs g h b c e d l a : _) (r r' : _) (s s' : _) → answer-line.Post κs g h b c e d l a r s → answer-line.Post κs g h b c e d l a r' s'
     → (r ≡ r') × (s.0.now ≡ s'.0.now)
-answer_line_one κs g h a r r' s s' p q = (same p.0.0 q.0.0, same p.1 q.1)
+answer_line_one κs g h b c e d l a r r' s s' p q = (same p.0.0 q.0.0, same p.1 q.1)
 
 pub line_one : (κs : _) (a : _) (r r' : _) (s s' : _) → line.Post κs a r s → line.Post κs a r' s'
     → (r ≡ r') × (s.0.now ≡ s'.0.now)
