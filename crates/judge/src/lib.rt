@@ -64,7 +64,7 @@ pub enum Course {
     },
 }
 
-// What a list comes to.
+// What a list comes to. Its four answers are printed each in a word of its own: not the shape of a result.
 #[derive(Clone, Copy)]
 pub enum Judgement {
     Yes,
@@ -77,34 +77,26 @@ pub enum Judgement {
 }
 
 // Whether the block is the message's bytes from a place on.
+#[tactic(auto, using(lists::proofs::Lent::rest_lent, crate::proofs::Blocks::compared_so), unfolding(crate::specs::Judge::agrees))]
 fn agrees(message: &[u8], from: usize, block: &[u8]) -> bool
     ensures { result ≡ agrees message.now from block.now }
 {
-    if message.len() <= from {
-        return block.len() == 0;
-    }
-    let n = block.len().min(message.len() - from);
-    check::same(&message[from..from + n], block)
+    let start = from.min(message.len());
+    message[start..].starts_with(block)
 }
 
 // The same, if what is before it agreed.
 fn agrees_on(same: bool, message: &[u8], from: usize, block: &[u8]) -> bool
     ensures { result ≡ (same && agrees message.now from block.now) }
 {
-    if !same {
-        return false;
-    }
-    agrees(message, from, block)
+    same && agrees(message, from, block)
 }
 
 // Whether a message of so many bytes, that ends with the block, is the message.
 fn is_message(same: bool, message: &[u8], from: usize, block: &[u8], len: usize) -> bool
     ensures { result ≡ ((same && agrees message.now from block.now) && len == length message.now) }
 {
-    if !agrees_on(same, message, from, block) {
-        return false;
-    }
-    len == message.len()
+    agrees_on(same, message, from, block) && len == message.len()
 }
 
 // A block of the channel's.
@@ -121,7 +113,7 @@ fn lands(message: &[u8], place: u64, stage: Stage, same: bool, offer: Offer, blo
             why: Reason::Steps,
         },
         Took::Holds { wanted, at, held } => Course::Going {
-            place: std::num::wrapping_add_u64(place, 1),
+            place: place.wrapping_add(1),
             stage: Stage::Joining { wanted, held },
             same: agrees_on(same, message, at as usize, block),
         },
