@@ -179,14 +179,12 @@ fn lay_differences(file: &[u8], out: &mut [u8]) -> usize
     ensures out_after { out.new ≡ laid out.old 0 (differences_from 0 (lines_in file.now)) }
 {
     let mut rest = file;
-    let mut k: usize = 0;
     let mut used = 0;
-    while rest.len() != 0 {
+    for k in 0..BYTES {
         let (line, behind) = lists::first_line(rest);
         let byte = k as u8;
         used += difference(&mut out[used..], byte, claim_in(line, byte));
         rest = behind;
-        k += 1;
     }
     used
 }
