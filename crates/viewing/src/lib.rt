@@ -95,7 +95,7 @@ pub fn asked(word: &[u8]) -> Option<Way>
 
 // ---- a list as lines
 
-// The line of a name, from a place on. Answers its length.
+// The line of a name, from a place on. Answers its length. No pen: `codepage` lays into the part of the buffer that is lent.
 fn name_line(name: &[u8], out: &mut [u8], at: usize) -> usize
     requires { (0 < length name.now) × (at + 6 * (length name.now + 1) ≤ length out.old) }
     ensures value { (result ≡ length (name_line name.now)) × (result ≤ 6 * (length name.now + 1)) }
@@ -116,6 +116,7 @@ fn lay_lines(list: &[u8], out: &mut [u8]) -> usize
 {
     let mut rest = list;
     let mut used = 0;
+    // Names have varying lengths.
     while rest.len() != 0 {
         let end = lists::first_zero(rest);
         used += name_line(&rest[..end], out, used);
@@ -156,7 +157,8 @@ fn judge(line: &[u8]) -> Result<(), LeftOut>
     Ok(())
 }
 
-// The name of a line that is kept and its zero byte, from a place on. Answers how many bytes there are.
+// The name of a line that is kept and its zero byte, from a place on. Answers how many bytes there are. No pen: `codepage` lays into the
+// part of the buffer that is lent.
 fn entry(line: &[u8], out: &mut [u8], at: usize) -> usize
     requires { at + length line.now < length out.old }
     ensures value { (result ≡ length (entry_of line.now)) × (result ≤ length line.now + 1) }
@@ -180,6 +182,7 @@ fn lay_list(text: &[u8], out: &mut [u8]) -> usize
 {
     let mut rest = text;
     let mut used = 0;
+    // Lines have varying lengths.
     while rest.len() != 0 {
         let (line, behind) = lists::first_line(rest);
         used += entry(line, out, used);
