@@ -23,7 +23,7 @@ ghost use Rattle.cause.specs.Why.{sought_in, WHY_MAX, why_line, said_line};
 
 use channel::{Answer, Record};
 use client::Received;
-use lines::{ANSWER_MAX, FIELD_MAX};
+use lines::{ANSWER_MAX, FIELD_MAX, Pen};
 use paper::{PARTS, REPLY_MIN, Refusal};
 use records::Stand;
 use rules::Rule;
@@ -340,22 +340,25 @@ fn line(out: &mut [u8], answer: Answer, sent: usize, cause: Option<Cause>) -> us
     ensures value { (result ≡ length (why_line answer sent cause)) × (result ≤ WHY_MAX) }
     ensures out_after { out.new ≡ laid out.old 0 (why_line answer sent cause) }
 {
+    let mut pen = Pen { out, at: 0 };
     let Some(cause) = cause else {
-        return lines::answer(out, answer, sent, b'\n');
+        pen.answer(answer, sent, b'\n');
+        return pen.at;
     };
-    let answered = lines::answer(out, answer, sent, b' ');
+    pen.answer(answer, sent, b' ');
     match cause {
         Cause::SpoiledBy { place, why } => {
-            let spoiled = answered + lines::text(out, answered, b"spoiled at ");
-            let placed = spoiled + lines::field(out, spoiled, place, b' ');
-            let by = placed + lines::text(out, placed, b"by ");
-            by + lines::field(out, by, paper::refusal_number(why) as u64, b'\n')
+            pen.text(b"spoiled at ");
+            pen.field(place, b' ');
+            pen.text(b"by ");
+            pen.field(paper::refusal_number(why) as u64, b'\n');
         }
         Cause::ByRule(rule) => {
-            let ruled = answered + lines::text(out, answered, b"rule ");
-            ruled + rules::name(out, ruled, rule)
+            pen.text(b"rule ");
+            pen.text(rules::text(rule));
         }
     }
+    pen.at
 }
 
 // The program's line, at the front of the buffer: of what is said, or `absent`. Answers its length.

@@ -173,7 +173,7 @@ pub enum Part {
 // The version that we say. The level in use is never above it.
 pub const OUR_VERSION: u16 = 2;
 
-// What is sent.
+// What is sent. Nothing is a case of it: with an option around them each case would be matched twice.
 #[derive(Clone, Copy)]
 pub enum Reply {
     NoReply,

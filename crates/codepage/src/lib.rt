@@ -31,7 +31,7 @@ struct Front {
     width: usize,
 }
 
-// The entry of a byte: its code point, or `NONE`.
+// The entry of a byte: its code point, or `NONE`. The table is one of numbers, so an entry is one.
 pub fn point_of(byte: u8) -> u16
     ensures { result ≡ point_of byte }
 {

@@ -96,12 +96,7 @@ impl Message {
 
 // Cuts the block that starts at the offset off the message, and writes its PDU.
 #[tactic(auto, unfolding(paper::specs::Sizes::MESSAGE_MAX))]
-pub fn cut(
-    number: u32,
-    message: &[u8],
-    offset: usize,
-    out: &mut [u8],
-) -> Result<Piece, Refusal>
+pub fn cut(number: u32, message: &[u8], offset: usize, out: &mut [u8]) -> Result<Piece, Refusal>
     ensures value { result ≡ cut_at number message.now offset out.old }
     ensures out_after { out.new ≡ cut_buffer number message.now offset out.old }
 {

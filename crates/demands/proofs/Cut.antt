@@ -2,7 +2,7 @@
 -- By induction on the calls of `cut`: before each the channel holds what the calls before it cut. The run may hold any events of other
 -- channels; it starts in any sound, ready state.
 -- Assumes nothing.
-use Rattle.std.specs.Prelude.{None, Some, Ok}
+use Rattle.std.specs.Prelude.{None, Some, Ok, Result}
 use mathlib.Core.Path.{◌≡◌, refl, sym, ap, ◌∙◌}
 use mathlib.Core.Logic.{⊎_elim}
 use mathlib.Core.Bool.{Bool, true, false, not, cond}
@@ -346,12 +346,12 @@ cut_and_joined n m lent cs small by st g r part v idle xs e =
 -- ---- none is refused
 
 -- calls from an offset on
-record Some (n : ℕ) (m : List ℕ) (lent : ℕ → List ℕ) (at : ℕ) : Type 0 where
+record CallsFrom (n : ℕ) (m : List ℕ) (lent : ℕ → List ℕ) (at : ℕ) : Type 0 where
   pub cuts : List Cut
   pub are_cut : Cuts (λ o. cut_at n m o (lent o)) (λ o. cut_buffer n m o (lent o)) (length m) at cuts
 
 module _ (n : ℕ) (m : List ℕ) (short : length m ≤ MESSAGE_MAX) (lent : ℕ → List ℕ) (room : (at : ℕ) → PDU_MAX ≤ length (lent at)) where
-  go : (more at : ℕ) → length m < at + more → is_start n (length m) at ≡ true → Some n m lent at
+  go : (more at : ℕ) → length m < at + more → is_start n (length m) at ≡ true → CallsFrom n m lent at
   go zero at fuel s = let w = start_within n (length m) at s in absurd (omega arith)
   go (suc more) at fuel s = by (ltb (block_end n (length m) at) (length m)) refl (λ f t. go more (block_end n (length m) at) f t)
     where
@@ -360,8 +360,8 @@ module _ (n : ℕ) (m : List ℕ) (short : length m ≤ MESSAGE_MAX) (lent : ℕ
 
       by :
           (t : Bool) → ltb (block_end n (length m) at) (length m) ≡ t
-          → (length m < block_end n (length m) at + more → is_start n (length m) (block_end n (length m) at) ≡ true → Some n m lent (block_end n (length m) at))
-          → Some n m lent at
+          → (length m < block_end n (length m) at + more → is_start n (length m) (block_end n (length m) at) ≡ true → CallsFrom n m lent (block_end n (length m) at))
+          → CallsFrom n m lent at
       by true e later =
           let below = ltb-true (block_end n (length m) at) (length m) e in
           let onward = end_from_law n (length m) at in
@@ -376,7 +376,7 @@ module _ (n : ℕ) (m : List ℕ) (short : length m ≤ MESSAGE_MAX) (lent : ℕ
 
 -- ---- the same of `dvc_cut`: its number says what `cut` answers
 
-module _ {one two : ℕ → Piece} (same : (at : ℕ) → one at ≡ two at) (buffer : ℕ → List ℕ) (total : ℕ) where
+module _ {one two : ℕ → Result Piece Refusal} (same : (at : ℕ) → one at ≡ two at) (buffer : ℕ → List ℕ) (total : ℕ) where
   same_calls : (at : ℕ) (cs : List Cut) → Cuts one buffer total at cs → Cuts two buffer total at cs
   same_calls at cs (last_one len next e end) = last_one len next (sym (same at) ∙ e) end
   same_calls at cs (one_more len next rest e below k) = one_more len next rest (sym (same at) ∙ e) below (same_calls next rest k)

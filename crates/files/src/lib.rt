@@ -62,6 +62,7 @@ pub fn load<R: Read>(
     ensures loads { Loads (R.remaining reader.old) (R.remaining reader.new) buffer.new result }
 {
     let mut had = 0;
+    // A read brings as many bytes as it likes, so this is no loop over a range.
     while had < buffer.len() {
         let n = fill(rt, reader, name, buffer, had)?;
         if n == had {

@@ -16,6 +16,7 @@ ghost use Rattle.judge.specs.Judge.{agrees, course_by, brought, course_after, ju
 ghost use Rattle.judge.specs.Sender.{HEAD, HEAD_MAX, head_needs, is_whole, REASON_MAX, reason_field, judgement_line, line_at, turned, at_first};
 
 use channel::{Offer, Stage, Took};
+use lines::Pen;
 use reading::Pdu;
 use records::Stand;
 
@@ -281,21 +282,22 @@ pub fn head_needs(head: &[u8]) -> usize
     HEAD + message as usize
 }
 
-// The word of a reason, which ends the line, from a place on.
-fn word(out: &mut [u8], at: usize, why: Reason) -> usize
-    ensures value { (result ≡ length (reason_field why)) × (result ≤ REASON_MAX) }
-    ensures out_after { out.new ≡ laid out.old at (reason_field why) }
+// The word of a reason, which ends the line.
+#[tactic(auto, unfolding(crate::specs::Sender::reason_field))]
+fn word(why: Reason) -> &'static [u8]
+    ensures { (result.now ≡ reason_field why) × (length result.now ≤ REASON_MAX) }
 {
     match why {
-        Reason::Reading => lines::text(out, at, b"reading\n"),
-        Reason::Kind => lines::text(out, at, b"kind\n"),
-        Reason::OtherChannel => lines::text(out, at, b"channel\n"),
-        Reason::Steps => lines::text(out, at, b"steps\n"),
-        Reason::Before => lines::text(out, at, b"before\n"),
+        Reason::Reading => b"reading\n",
+        Reason::Kind => b"kind\n",
+        Reason::OtherChannel => b"channel\n",
+        Reason::Steps => b"steps\n",
+        Reason::Before => b"before\n",
     }
 }
 
 // The line of a judgement, at the front of the buffer. Answers its length.
+#[tactic(auto, unfolding(crate::specs::Sender::judgement_line))]
 pub fn line(out: &mut [u8], judgement: Judgement) -> usize
     ensures value { (result ≡ length (judgement_line judgement)) × (result ≤ LINE_MAX) }
     ensures out_after { out.new ≡ laid out.old 0 (judgement_line judgement) }
@@ -303,9 +305,11 @@ pub fn line(out: &mut [u8], judgement: Judgement) -> usize
     match judgement {
         Judgement::Yes => lines::text(out, 0, b"yes\n"),
         Judgement::No { place, why } => {
-            let said = lines::text(out, 0, b"no ");
-            let placed = said + lines::field(out, said, place, b' ');
-            placed + word(out, placed, why)
+            let mut pen = Pen { out, at: 0 };
+            pen.text(b"no ");
+            pen.field(place, b' ');
+            pen.text(word(why));
+            pen.at
         }
         Judgement::Early => lines::text(out, 0, b"no early\n"),
         Judgement::Differs => lines::text(out, 0, b"no bytes\n"),

@@ -4,17 +4,10 @@
 // zeros. proofs/ has their laws. The functions copy, clear and look for a byte. Each takes slices of any length.
 #![tactic(auto)]
 
-ghost use Rattle.std.specs.Prelude.{◌≡◌, min, length, drop};
+ghost use Rattle.std.specs.Prelude.{◌≡◌, length, drop};
 ghost use Rattle.lists.specs.Bytes.{laid, zeros, is_byte, is_zero};
 ghost use Rattle.lists.specs.Places.{place};
 ghost use Rattle.lists.specs.Lines.{first_line, behind_line};
-
-// The lesser of two numbers.
-pub fn lesser(a: usize, b: usize) -> usize
-    ensures { result ≡ min a b }
-{
-    a.min(b)
-}
 
 // Copies the block to the front of the part. Bytes behind it stay, and what doesn't fit is left out.
 #[tactic(auto, using(crate::proofs::Laid::laid_front))]
@@ -54,7 +47,7 @@ pub fn clear(part: &mut [u8])
     part.fill(0);
 }
 
-// The place of the first byte that is this one, or the length where there is none.
+// The place of the first byte that is this one, or the length where there is none: so it cuts the bytes in either case.
 pub fn first_of(bytes: &[u8], byte: u8) -> usize
     ensures { result ≡ place (is_byte byte) bytes.now }
 {

@@ -29,9 +29,13 @@ log_in word = record { blocks = word / HELDS; held = word % HELDS }
 unfoldable pub refused_as : ℕ → ℤ
 refused_as number = neg_ℤ (pos number)
 
+-- an answer as a number, by that of what it tells
+abbrev pub number_of : {A : Type 0} → (A → ℕ) → Result A Refusal → ℤ
+number_of word (Ok kept) = pos (word kept)
+number_of word (Err why) = refused_as (refusal_number why)
+
 unfoldable pub log_number : Result Log Refusal → ℤ
-log_number (Ok log) = pos (log_word log)
-log_number (Err why) = refused_as (refusal_number why)
+log_number = number_of log_word
 
 -- what a call answers for a number that may be a log's
 unfoldable pub append_number : ℕ → List ℕ → List ℕ → ℤ
@@ -82,8 +86,7 @@ read_in word =
     }
 
 unfoldable pub read_number : Result Reader Refusal → ℤ
-read_number (Ok reader) = pos (read_word reader)
-read_number (Err why) = refused_as (refusal_number why)
+read_number = number_of read_word
 
 unfoldable pub turn_number : ℕ → ℕ → ℕ → List ℕ → List ℕ → ℤ
 turn_number word blocks number block room =

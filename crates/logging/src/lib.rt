@@ -16,8 +16,9 @@ ghost use Rattle.records.specs.Records.{LENGTH};
 ghost use Rattle.records.specs.Walks.{records_of, size_of, rest_of};
 ghost use Rattle.blocks.specs.Block.{BLOCK, PAYLOAD};
 ghost use Rattle.lines.specs.Decimal.{FIELD_MAX};
+ghost use Rattle.lines.specs.Pen.{Writes};
 ghost use Rattle.linklog.specs.Records.{Received, Closed, entry_in, record_of};
-ghost use Rattle.linklog.specs.Appending.{ROOM, last_at, answer_for, room_then};
+ghost use Rattle.linklog.specs.Appending.{ROOM, last_at, last_in, answer_for, room_then};
 ghost use Rattle.logging.specs.Input.{input_whole};
 ghost use Rattle.logging.specs.Writing.{is_even, full_text, last_text, step_of, put_of, is_over, start_course, turned_to, stand_of};
 ghost use Rattle.logging.specs.Lines.{TEXT_PER_BYTE, SAID_MAX, entry_line, said_of};
@@ -25,6 +26,7 @@ ghost use Rattle.linklog.specs.Turns.{room_after};
 ghost use Rattle.logging.specs.Reading.{judged_by, told_by, text_of};
 
 use blocks::{BLOCK, PAYLOAD};
+use lines::Pen;
 use linklog::{BLOCKS_MAX, Log, ROOM, Reader};
 use paper::Refusal;
 use records::{CLOSE, LENGTH};
@@ -98,6 +100,16 @@ fn last_at(log: Log) -> usize
     BLOCK * (log.held as usize - 1)
 }
 
+// The log's last block, as far as the room has it.
+fn last_block(log: Log, room: &[u8]) -> &[u8]
+    ensures { (result.now ≡ last_in log room.now) × (length result.now ≤ BLOCK) }
+{
+    let at = last_at(log);
+    let start = at.min(room.len());
+    let end = (at + BLOCK).min(room.len());
+    &room[start..end]
+}
+
 // Whether the log has no last block, or a full one.
 fn is_even(log: Log, room: &[u8]) -> bool
     ensures { result ≡ is_even log room.now }
@@ -105,10 +117,7 @@ fn is_even(log: Log, room: &[u8]) -> bool
     if log.blocks == 0 {
         return true;
     }
-    let at = last_at(log);
-    let start = at.min(room.len());
-    let end = (at + BLOCK).min(room.len());
-    usize::from(blocks::used(&room[start..end])) == PAYLOAD
+    usize::from(blocks::used(last_block(log, room))) == PAYLOAD
 }
 
 // How many bytes at the room's front are full blocks.
@@ -179,6 +188,7 @@ fn walk(course: Course, input: &[u8], room: &mut [u8], out: &mut [u8]) -> Walked
     let mut next = course;
     let mut at = 0;
     let mut used = 0;
+    // Records have varying sizes.
     while let Some(n) = linklog::framed(&input[at..]) {
         let end = at + n;
         let stepped = step(next, &input[at..end], room, out, used);
@@ -243,46 +253,41 @@ pub fn finish(log: Log, room: &[u8], out: &mut [u8]) -> usize
     if is_even(log, room) {
         return 0;
     }
-    let at = last_at(log);
-    let start = at.min(room.len());
-    let end = (at + BLOCK).min(room.len());
-    lines::text(out, 0, &room[start..end])
+    lines::text(out, 0, last_block(log, room))
 }
 
-// The line of a local close, from a place on.
-fn close_line(bytes: &[u8], out: &mut [u8], at: usize) -> usize
-    requires { (LENGTH ≤ length bytes.now) × (at ≤ SAID_MAX) }
-    ensures value { (result ≡ length (entry_line (Closed (value_at bytes.now LENGTH 4)))) × (result ≤ 6 + FIELD_MAX) }
-    ensures out_after { out.new ≡ laid out.old at (entry_line (Closed (value_at bytes.now LENGTH 4))) }
+// The line of a local close.
+fn close_line(pen: &mut Pen, bytes: &[u8])
+    requires { (LENGTH ≤ length bytes.now) × (pen.old.at ≤ SAID_MAX) }
+    ensures { Writes pen.old pen.new (entry_line (Closed (value_at bytes.now LENGTH 4))) (6 + FIELD_MAX) }
 {
     let number = numbers::number(&bytes[LENGTH..]);
-    let worded = lines::text(out, at, b"close ");
-    worded + lines::field(out, at + worded, u64::from(number), b'\n')
+    pen.text(b"close ");
+    pen.field(u64::from(number), b'\n');
 }
 
-// The line of a PDU, from a place on.
-fn pdu_line(pdu: &[u8], out: &mut [u8], at: usize) -> usize
-    requires { (length pdu.now ≤ ROOM) × (at ≤ SAID_MAX) }
-    ensures value { (result ≡ length (entry_line (Received pdu.now))) × (result ≤ 4 + FIELD_MAX + 2 * length pdu.now + 2) }
-    ensures out_after { out.new ≡ laid out.old at (entry_line (Received pdu.now)) }
+// The line of a PDU.
+fn pdu_line(pen: &mut Pen, pdu: &[u8])
+    requires { (length pdu.now ≤ ROOM) × (pen.old.at ≤ SAID_MAX) }
+    ensures { Writes pen.old pen.new (entry_line (Received pdu.now)) (4 + FIELD_MAX + 2 * length pdu.now + 2) }
 {
-    let worded = lines::text(out, at, b"pdu ");
-    let told = worded + lines::field(out, at + worded, pdu.len() as u64, b' ');
-    let spelled = told + lines::bytes_field(out, at + told, pdu);
-    spelled + lines::text(out, at + spelled, b"\n")
+    pen.text(b"pdu ");
+    pen.field(pdu.len() as u64, b' ');
+    pen.bytes(pdu);
+    pen.text(b"\n");
 }
 
-// The line of a record, from a place on.
-fn line(bytes: &[u8], out: &mut [u8], at: usize) -> usize
-    requires { (LENGTH ≤ length bytes.now) × ((length bytes.now ≤ ROOM) × (at ≤ SAID_MAX)) }
-    ensures value { (result ≡ length (entry_line (entry_in bytes.now))) × (result ≤ TEXT_PER_BYTE * length bytes.now) }
-    ensures out_after { out.new ≡ laid out.old at (entry_line (entry_in bytes.now)) }
+// The line of a record.
+fn line(pen: &mut Pen, bytes: &[u8])
+    requires { (LENGTH ≤ length bytes.now) × ((length bytes.now ≤ ROOM) × (pen.old.at ≤ SAID_MAX)) }
+    ensures { Writes pen.old pen.new (entry_line (entry_in bytes.now)) (TEXT_PER_BYTE * length bytes.now) }
 {
     let announced = numbers::short_at(bytes, 0);
     if u32::from(announced) == CLOSE {
-        return close_line(bytes, out, at);
+        close_line(pen, bytes);
+        return;
     }
-    pdu_line(&bytes[LENGTH..], out, at)
+    pdu_line(pen, &bytes[LENGTH..]);
 }
 
 // The lines of the whole records at the front of the bytes, one behind the other.
@@ -291,14 +296,15 @@ fn lines_of(records: &[u8], out: &mut [u8]) -> usize
     ensures value { (result ≡ length (said_of records.now)) × (result ≤ SAID_MAX) }
     ensures out_after { out.new ≡ laid out.old 0 (said_of records.now) }
 {
+    let mut pen = Pen { out, at: 0 };
     let mut at = 0;
-    let mut used = 0;
+    // Records have varying sizes.
     while let Some(n) = linklog::whole(&records[at..]) {
         let end = at + n;
-        used += line(&records[at..end], out, used);
+        line(&mut pen, &records[at..end]);
         at = end;
     }
-    used
+    pen.at
 }
 
 // The lines of the whole records at the front of the bytes, of which a turn gives at most a room's. Answers how many bytes they have.

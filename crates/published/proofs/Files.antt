@@ -81,6 +81,16 @@ pub within_bytes : (k : ℕ) (lines : List (List ℕ)) → wrong_from k lines �
 within_bytes k [] e = omega (arith, none_missing k e)
 within_bytes k (line ∷ lines) e = omega (arith, (none_wrong k line lines e).0)
 
+-- so a line is left for each byte, and no other
+pub line_left : (k : ℕ) (rest : List ℕ) → wrong_from k (lines_in rest) ≡ None → k < BYTES → 0 < length rest
+line_left k [] good h = absurd (omega (arith, none_missing k (rw no_lines at good)))
+line_left k (b ∷ rest) good h = omega arith
+
+pub none_left : (k : ℕ) (rest : List ℕ) → wrong_from k (lines_in rest) ≡ None → BYTES ≤ k → rest ≡ []
+none_left k [] good h = refl
+none_left k (b ∷ rest) good h =
+    absurd (omega (arith, (none_wrong k _ _ (sym (ap (wrong_from k) (lines_first (b ∷ rest) (omega arith))) ∙ good)).0))
+
 -- ---- what differs
 
 -- at the line of the k-th byte: what is laid so far, and what is left, make the whole
@@ -104,19 +114,19 @@ module _ (file out₀ out rest : List ℕ) (k used : ℕ) (on : On file out₀ o
   pub on_bytes : k ≤ BYTES
   on_bytes = within_bytes k (lines_in rest) on.good
 
-  pub on_end : rest ≡ [] → differences_from 0 (lines_in file) ≡ on.done
+  pub on_end : BYTES ≤ k → differences_from 0 (lines_in file) ≡ on.done
   unfolding differences_from
-  on_end e = on.leads ∙ rw (e, no_lines, append-nil on.done)
+  on_end all = on.leads ∙ rw (none_left k rest on.good all, no_lines, append-nil on.done)
 
-  -- a line that is left is of a byte, and those behind it are as they should be
-  module _ (there : 0 < length rest) where
+  -- while bytes are left, a line is, and those behind it are as they should be
+  module _ (due : k < BYTES) where
+    there : 0 < length rest
+    there = line_left k rest on.good due
+
     line_good : (k < BYTES) × (wrong_from (k + 1) (lines_in (behind_line rest)) ≡ None)
     line_good =
         let h = none_wrong k _ _ (sym (ap (wrong_from k) (lines_first rest there)) ∙ on.good) in
         (h.0, rw (add-one k) h.1.1)
-
-    pub on_byte : k < BYTES
-    on_byte = line_good.0
 
     pub on_next : (claim : Option (Option ℕ)) (out' : List ℕ) (m : ℕ) → claim ≡ claim_in k (first_line rest) → m ≡ length (difference_of k claim)
         → m ≤ DIFFERENCE_MAX → out' ≡ laid out used (difference_of k claim) → On file out₀ out' (behind_line rest) (k + 1) (used + m)

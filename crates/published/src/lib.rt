@@ -6,16 +6,17 @@
 // a buffer of `COMPARED_MAX`.
 #![tactic(auto)]
 
-ghost use Rattle.std.specs.Prelude.{◌≡◌, None, ◌+◌, ◌*◌, ◌≤◌, ◌<◌, length, IfSome, IfOk};
+ghost use Rattle.std.specs.Prelude.{◌≡◌, None, ◌+◌, ◌*◌, ◌^◌, ◌≤◌, ◌<◌, length, IfSome, IfOk};
 ghost use Rattle.lists.specs.Bytes.{laid};
 ghost use Rattle.lists.specs.Lines.{lines_in};
+ghost use Rattle.lines.specs.Pen.{Writes};
 ghost use Rattle.codepage.specs.Points.{BYTES};
 ghost use Rattle.published.specs.Claims.{digit_in, pair_in, claim_behind, claim_in, agrees};
 ghost use Rattle.published.specs.Comparing.{wrong_from, point_text, our_text, their_text, DIFFERENCE_MAX, difference_of, differences_from};
 ghost use Rattle.published.specs.Comparing.{COMPARED_MAX, compared_for, compared_in, WRONG_MAX, wrong_line};
 
 use codepage::NONE;
-use lines::FIELD_MAX;
+use lines::{FIELD_MAX, Pen};
 
 // The bytes that have an entry.
 const BYTES: usize = 256;
@@ -120,40 +121,36 @@ fn wrong_line(file: &[u8]) -> Option<usize>
 
 // ---- the lines of those that differ
 
-// A code point's four digits, from a place on. Answers how many there are.
-fn point_text(out: &mut [u8], at: usize, point: u16) -> usize
-    requires { at ≤ DIFFERENCE_MAX }
-    ensures value { (result ≡ length (point_text point)) × (result ≤ 4) }
-    ensures out_after { out.new ≡ laid out.old at (point_text point) }
+// A code point's four digits.
+fn point_text(pen: &mut Pen, point: u16)
+    requires { pen.old.at + 4 < 2 ^ 64 }
+    ensures { Writes pen.old pen.new (point_text point) 4 }
 {
-    let high = lines::hex_byte((point / 256) as u8);
-    let low = lines::hex_byte((point % 256) as u8);
-    let begun = lines::text(out, at, &high);
-    begun + lines::text(out, at + begun, &low)
+    pen.text(&lines::hex_byte((point / 256) as u8));
+    pen.text(&lines::hex_byte((point % 256) as u8));
 }
 
-// Our entry, from a place on: `-` for none. Answers its length.
-fn ours(out: &mut [u8], at: usize, point: u16) -> usize
-    requires { at ≤ DIFFERENCE_MAX }
-    ensures value { (result ≡ length (our_text point)) × (result ≤ 4) }
-    ensures out_after { out.new ≡ laid out.old at (our_text point) }
+// Our entry: `-` for none.
+fn ours(pen: &mut Pen, point: u16)
+    requires { pen.old.at + 4 < 2 ^ 64 }
+    ensures { Writes pen.old pen.new (our_text point) 4 }
 {
     if point == NONE {
-        return lines::text(out, at, b"-");
+        pen.text(b"-");
+        return;
     }
-    point_text(out, at, point)
+    point_text(pen, point);
 }
 
-// The published one, from a place on: `-` for none. Answers its length.
-fn theirs(out: &mut [u8], at: usize, claim: Option<Option<u16>>) -> usize
-    requires { at ≤ DIFFERENCE_MAX }
-    ensures value { (result ≡ length (their_text claim)) × (result ≤ 4) }
-    ensures out_after { out.new ≡ laid out.old at (their_text claim) }
+// The published one: `-` for none.
+fn theirs(pen: &mut Pen, claim: Option<Option<u16>>)
+    requires { pen.old.at + 4 < 2 ^ 64 }
+    ensures { Writes pen.old pen.new (their_text claim) 4 }
 {
     match claim {
-        Some(Some(point)) => point_text(out, at, point),
-        Some(None) => lines::text(out, at, b"-"),
-        None => 0,
+        Some(Some(point)) => point_text(pen, point),
+        Some(None) => pen.text(b"-"),
+        None => {}
     }
 }
 
@@ -165,13 +162,14 @@ fn difference(out: &mut [u8], byte: u8, claim: Option<Option<u16>>) -> usize
     if agree(claim, byte) {
         return 0;
     }
-    let hex = lines::hex_byte(byte);
-    let named = lines::text(out, 0, &hex);
-    let of_us = named + lines::text(out, named, b" ours ");
-    let told = of_us + ours(out, of_us, codepage::point_of(byte));
-    let of_them = told + lines::text(out, told, b" published ");
-    let all = of_them + theirs(out, of_them, claim);
-    all + lines::text(out, all, b"\n")
+    let mut pen = Pen { out, at: 0 };
+    pen.text(&lines::hex_byte(byte));
+    pen.text(b" ours ");
+    ours(&mut pen, codepage::point_of(byte));
+    pen.text(b" published ");
+    theirs(&mut pen, claim);
+    pen.text(b"\n");
+    pen.at
 }
 
 // The lines of all that differ, in a file that is as it should be. Answers how many bytes they have.
@@ -181,14 +179,12 @@ fn lay_differences(file: &[u8], out: &mut [u8]) -> usize
     ensures out_after { out.new ≡ laid out.old 0 (differences_from 0 (lines_in file.now)) }
 {
     let mut rest = file;
-    let mut k: usize = 0;
     let mut used = 0;
-    while rest.len() != 0 {
+    for k in 0..BYTES {
         let (line, behind) = lists::first_line(rest);
         let byte = k as u8;
         used += difference(&mut out[used..], byte, claim_in(line, byte));
         rest = behind;
-        k += 1;
     }
     used
 }
@@ -216,12 +212,11 @@ pub fn say(out: &mut [u8], line: usize) -> usize
     ensures value { (result ≡ length (wrong_line line)) × (result ≤ WRONG_MAX) }
     ensures out_after { out.new ≡ laid out.old 0 (wrong_line line) }
 {
-    let begun = lines::text(out, 0, b"names: line ");
-    let numbered = begun + lines::field(out, begun, line as u64, b' ');
-    numbered
-        + lines::text(
-            out,
-            numbered,
-            b"isn't as it should be: 256 lines are wanted, `BYTE POINT` or `BYTE undefined` in hexadecimal, from 00 to FF\n",
-        )
+    let mut pen = Pen { out, at: 0 };
+    pen.text(b"names: line ");
+    pen.field(line as u64, b' ');
+    pen.text(
+        b"isn't as it should be: 256 lines are wanted, `BYTE POINT` or `BYTE undefined` in hexadecimal, from 00 to FF\n",
+    );
+    pen.at
 }

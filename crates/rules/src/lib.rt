@@ -1,6 +1,6 @@
 // The refusals' rules by name: which is the first in the order that holds for a PDU, at a table and with a listener list.
 //
-// `first` says it, and `name` lays a rule's name as text. Both take anything, and neither refuses. A PDU that `receive` accepts
+// `first` says it, `text` is a rule's name as text, and `name` lays that. They take anything, and none refuses. A PDU that `receive` accepts
 // breaks no rule; one that it refuses breaks the rule whose number it answers, but for refusal 1, which is the call's.
 #![tactic(auto)]
 
@@ -301,7 +301,7 @@ pub fn first(table: Table, list: &[u8], pdu: &[u8]) -> Option<Rule>
 
 // A rule's name and an LF.
 #[tactic(auto, unfolding(crate::specs::Rules::name_text))]
-fn text(rule: Rule) -> &'static [u8]
+pub fn text(rule: Rule) -> &'static [u8]
     ensures { (result.now ≡ name_text rule) × (length result.now ≤ NAME_MAX) }
 {
     match rule {

@@ -156,7 +156,13 @@ fn same(buffer: &[u8], n: usize, pdu: &[u8]) -> bool
 }
 
 // The line's last word, from a place on, by what a writer answered and left in its buffer. Answers its length.
-fn word(out: &mut [u8], at: usize, answer: Result<usize, Refusal>, buffer: &[u8], pdu: &[u8]) -> usize
+fn word(
+    out: &mut [u8],
+    at: usize,
+    answer: Result<usize, Refusal>,
+    buffer: &[u8],
+    pdu: &[u8],
+) -> usize
     ensures value { (result ≡ length (word_for answer buffer.now pdu.now)) × (result ≤ 9) }
     ensures out_after { out.new ≡ laid out.old at
         (word_for answer buffer.now pdu.now) }
@@ -187,6 +193,7 @@ fn show(rt: &(impl Print + Eprint), input: &[u8]) -> Result<(), Failed>
     ensures { input.now ≡ input.now }
 {
     let mut rest = input;
+    // Records have varying sizes.
     while !rest.is_empty() {
         let Some(size) = records::whole(rest) else {
             return files::write(rt, b"cut\n");

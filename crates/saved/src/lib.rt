@@ -380,7 +380,7 @@ pub fn read_head(state: &[u8]) -> Head
     }
 }
 
-// The place of the record that holds the number, or sixteen.
+// The place of the record that holds the number, or sixteen: the table's searches, over the bytes.
 fn find_number(state: &[u8; STATE], number: u32) -> usize
     ensures { result ≡ number_place number (table_in state.now) }
 {

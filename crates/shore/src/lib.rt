@@ -166,7 +166,7 @@ fn said_as(answer: Answer) -> Said
 
 // ---- what a PDU asks
 
-// What a PDU asks that reading refuses, by the number that it carries.
+// What a PDU asks that reading refuses, by the number that it carries, as one of this end's matters.
 fn unread(pdu: &[u8], why: Refusal) -> Asked<Matter>
     ensures { result ≡ unread_heard why (carries pdu.now) }
 {
@@ -481,7 +481,7 @@ fn taken(
     }
 }
 
-// Refusal 1 gives back what came in.
+// Refusal 1 gives back what came in, which is each end's own.
 fn refused(shore: Shore) -> Given
     ensures { result ≡ record { shore = shore; said = Said.Refused Refusal.BadCall None; sent = 0; place = PARTS } }
 {
@@ -558,10 +558,7 @@ fn unsent(shore: Shore, why: Refusal) -> Sending
 {
     Sending {
         shore,
-        said: Said::Refused {
-            why,
-            concern: None,
-        },
+        said: Said::Refused { why, concern: None },
         sent: 0,
     }
 }

@@ -85,7 +85,7 @@ fn taken(
     packing::pack_said(said, number, k, sent)
 }
 
-// A call that is lent the store and the reply: refusal 1, and behind it what is asked.
+// A call that is lent the store and the reply: refusal 1, and behind it what is asked, which each end does in its own way.
 fn call(
     state: &mut [u8],
     store: &mut [u8],

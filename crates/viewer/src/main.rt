@@ -44,6 +44,7 @@ fn complain(rt: &impl Eprint, text: &[u8])
     let mut out = [0u8; SAY_MAX];
     let mut number: u64 = 1;
     let mut at = 0;
+    // `line_at` says where the next line begins.
     while at < text.len() {
         let line = viewing::line_at(text, at);
         let n = viewing::say(&mut out, number, line.verdict);

@@ -7,17 +7,18 @@
 // out. `asked` tells which of the two a word asks for.
 #![tactic(auto)]
 
-ghost use Rattle.std.specs.Prelude.{◌≡◌, true, ◌+◌, ◌*◌, ◌≤◌, ◌<◌, length, IfOk};
+ghost use Rattle.std.specs.Prelude.{◌≡◌, true, ◌+◌, ◌*◌, ◌^◌, ◌≤◌, ◌<◌, length, IfOk};
 ghost use Rattle.lists.specs.Bytes.{laid};
 ghost use Rattle.lists.specs.Lines.{lines_in};
 ghost use Rattle.lines.specs.Lines.{REFUSED_MAX};
+ghost use Rattle.lines.specs.Pen.{Writes};
 ghost use Rattle.listeners.specs.Listeners.{names, good_list};
 ghost use Rattle.viewing.specs.Ways.{way_by};
 ghost use Rattle.viewing.specs.Lists.{LINES_MAX, name_line, name_lines, shown_for, shown_in};
 ghost use Rattle.viewing.specs.Texts.{TEXT_MAX, verdict_on, entry_of, entries_of, gathered_for, gathered_in};
 ghost use Rattle.viewing.specs.Texts.{SAY_MAX, reason_for, left_out_line, line_at};
 
-use lines::{FIELD_MAX, REFUSED_MAX};
+use lines::{FIELD_MAX, Pen, REFUSED_MAX};
 use paper::{LIST_MAX, Refusal};
 
 // The most bytes of all lines of a list: for each of its bytes at most six.
@@ -94,7 +95,7 @@ pub fn asked(word: &[u8]) -> Option<Way>
 
 // ---- a list as lines
 
-// The line of a name, from a place on. Answers its length.
+// The line of a name, from a place on. Answers its length. No pen: `codepage` lays into the part of the buffer that is lent.
 fn name_line(name: &[u8], out: &mut [u8], at: usize) -> usize
     requires { (0 < length name.now) × (at + 6 * (length name.now + 1) ≤ length out.old) }
     ensures value { (result ≡ length (name_line name.now)) × (result ≤ 6 * (length name.now + 1)) }
@@ -115,6 +116,7 @@ fn lay_lines(list: &[u8], out: &mut [u8]) -> usize
 {
     let mut rest = list;
     let mut used = 0;
+    // Names have varying lengths.
     while rest.len() != 0 {
         let end = lists::first_zero(rest);
         used += name_line(&rest[..end], out, used);
@@ -155,7 +157,8 @@ fn judge(line: &[u8]) -> Result<(), LeftOut>
     Ok(())
 }
 
-// The name of a line that is kept and its zero byte, from a place on. Answers how many bytes there are.
+// The name of a line that is kept and its zero byte, from a place on. Answers how many bytes there are. No pen: `codepage` lays into the
+// part of the buffer that is lent.
 fn entry(line: &[u8], out: &mut [u8], at: usize) -> usize
     requires { at + length line.now < length out.old }
     ensures value { (result ≡ length (entry_of line.now)) × (result ≤ length line.now + 1) }
@@ -179,6 +182,7 @@ fn lay_list(text: &[u8], out: &mut [u8]) -> usize
 {
     let mut rest = text;
     let mut used = 0;
+    // Lines have varying lengths.
     while rest.len() != 0 {
         let (line, behind) = lists::first_line(rest);
         used += entry(line, out, used);
@@ -215,15 +219,15 @@ pub fn line_at(text: &[u8], at: usize) -> Line
     }
 }
 
-// Why a line is left out, from a place on. Answers its length.
-fn reason(out: &mut [u8], at: usize, why: LeftOut) -> usize
-    ensures value { (result ≡ length (reason_for why)) × (result ≤ REFUSED_MAX) }
-    ensures out_after { out.new ≡ laid out.old at (reason_for why) }
+// Why a line is left out.
+fn reason(pen: &mut Pen, why: LeftOut)
+    requires { pen.old.at + REFUSED_MAX < 2 ^ 64 }
+    ensures { Writes pen.old pen.new (reason_for why) REFUSED_MAX }
 {
     match why {
-        LeftOut::Empty => lines::text(out, at, b"it is empty\n"),
-        LeftOut::HasZero => lines::text(out, at, b"it has a zero byte\n"),
-        LeftOut::Unnamed => lines::refused(out, at, paper::refusal_number(Refusal::NoPartner)),
+        LeftOut::Empty => pen.text(b"it is empty\n"),
+        LeftOut::HasZero => pen.text(b"it has a zero byte\n"),
+        LeftOut::Unnamed => pen.refused(paper::refusal_number(Refusal::NoPartner)),
     }
 }
 
@@ -235,8 +239,10 @@ pub fn say(out: &mut [u8], number: u64, verdict: Result<(), LeftOut>) -> usize
     let Err(why) = verdict else {
         return 0;
     };
-    let begun = lines::text(out, 0, b"viewer: line ");
-    let numbered = begun + lines::field(out, begun, number, b' ');
-    let worded = numbered + lines::text(out, numbered, b"is left out: ");
-    worded + reason(out, worded, why)
+    let mut pen = Pen { out, at: 0 };
+    pen.text(b"viewer: line ");
+    pen.field(number, b' ');
+    pen.text(b"is left out: ");
+    reason(&mut pen, why);
+    pen.at
 }

@@ -406,6 +406,7 @@ fn walk(job: Job, kept: Kept, store: &mut [u8], list: &[u8], input: &[u8], out: 
     let mut next = kept;
     let mut at = 0;
     let mut used = 0;
+    // A record has the extent that its job gives it, and its text takes room: no loop over a range.
     while room <= out.len() - used {
         let Some(n) = extent_for(job, &input[at..]) else {
             break;

@@ -12,6 +12,7 @@ use Rattle.linklog.proofs.Framing.{log_framing}
 use Rattle.logging.proofs.Inputs.{logged_head}
 use Rattle.logging.proofs.Said.{begins, goes_on_law, ends_so}
 use native.Mathlib.Omega.{arith}
+use Rattle.std.proofs.Common.{rules}
 use Rattle.logging.proofs.lines_of.Goals as goal
 
 -- the record in front is whole: it has its length, and its bytes are there
@@ -57,23 +58,15 @@ slice_bounds-line-end c =
     let front = in_front c.args.records.now c.loop-n.at _ c.loop-n.invariant.leads.0 (sym c.in-Some.is ∙ c.whole.ensures.value) in
     omega (arith, front)
 
-pub line-used-requires : goal.line-used-requires
-line-used-requires c =
-    let front = in_front c.args.records.now c.loop-n.at _ c.loop-n.invariant.leads.0 (sym c.in-Some.is ∙ c.whole.ensures.value) in
+pub line-requires : goal.line-requires
+line-requires c =
     let l = c.loop-n in
     let records = c.args.records.now in
     let n = c.in-Some.n in
+    let front = in_front records l.at _ l.invariant.leads.0 (sym c.in-Some.is ∙ c.whole.ensures.value) in
     let long : length (take n (drop l.at records)) ≡ n = length-take n (drop l.at records) ∙ rw length-drop (omega (arith, front)) in
-    rw (from_to records l.at n, long) (omega (arith, front), (omega (arith, front, c.requires), omega (arith, l.invariant.room, l.invariant.leads.0, c.requires)))
-
-pub overflow_add-used : goal.overflow_add-used
-overflow_add-used c =
-    let front = in_front c.args.records.now c.loop-n.at _ c.loop-n.invariant.leads.0 (sym c.in-Some.is ∙ c.whole.ensures.value) in
-    let l = c.loop-n in
-    let records = c.args.records.now in
-    let n = c.in-Some.n in
-    let did = rw (from_to records l.at n) at c.line-used.ensures in
-    omega (arith, l.invariant.room, l.invariant.leads.0, c.requires, front, did.value.1, length-take n (drop l.at records))
+    let w = l.invariant.writes in
+    rw (from_to records l.at n, long) (omega (arith, front), (omega (arith, front, c.requires), omega (arith, w.at, w.within, l.invariant.leads.0, c.requires)))
 
 pub loop-n-smaller : goal.loop-n-smaller
 loop-n-smaller c =
@@ -82,19 +75,17 @@ loop-n-smaller c =
 
 pub loop-n-preserved : goal.loop-n-preserved
 loop-n-preserved c =
-    let front = in_front c.args.records.now c.loop-n.at _ c.loop-n.invariant.leads.0 (sym c.in-Some.is ∙ c.whole.ensures.value) in
     let l = c.loop-n in
-    let a = c.args in
-    let records = a.records.now in
+    let records = c.args.records.now in
     let n = c.in-Some.n in
-    let did = rw (from_to records l.at n) at c.line-used.ensures in
-    goes_on_law records a.out.now l.out l.at l.used l.invariant _ n _ front.0 (omega (arith, front)) front.1.1 did.value.0
-    (omega (arith, did.value.1, length-take n (drop l.at records))) did.out_after
+    let front = in_front records l.at _ l.invariant.leads.0 (sym c.in-Some.is ∙ c.whole.ensures.value) in
+    let long : length (take n (drop l.at records)) ≡ n = length-take n (drop l.at records) ∙ rw length-drop (omega (arith, front)) in
+    goes_on_law _ _ _ _ l.invariant _ n front.0 (omega (arith, front)) front.1.1 (rw (from_to records l.at n, long) at c.line.ensures)
 
 pub returns : goal.returns
 returns c =
     let l = c.loop-n in
     let records = c.args.records.now in
     let none = none_found (logged_whole (drop l.at records)) (sym (rw (to_end records l.at) at c.whole.ensures.value) ∙ c.in_default.is) in
-    let end = ends_so records c.args.out.now l.out l.at l.used l.invariant none in
-    record { value = (end.0.0, omega (arith, end.0.1, c.requires)); out_after = end.1 }
+    let w = ends_so _ _ _ _ l.invariant none in
+    record { value = omega (arith, w.at, w.within, c.requires); out_after = search (rules, w) }

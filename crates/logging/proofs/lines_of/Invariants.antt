@@ -6,7 +6,7 @@ use Rattle.logging.proofs.Said.{Left}
 use Rattle.logging.proofs.lines_of.Given as goal
 
 abbrev pub invariant-loop-n : goal.invariant-loop-n
-invariant-loop-n l = Left l.records l.initial.out l.out l.at l.used
+invariant-loop-n l = Left l.records l.initial.pen l.pen l.at
 
 abbrev pub decreases-loop-n : goal.decreases-loop-n
 decreases-loop-n l = length l.records - l.at
