@@ -12,6 +12,7 @@ ghost use Rattle.bench.specs.Tallies.{plus, tallied, noted, no_calls, sum_of};
 
 use channel::Answer;
 use client::Asked;
+use deciding::Matter;
 use files::{ARGUMENT, Failed};
 use paper::PARTS;
 use std::rt::{Env, Files};
@@ -74,7 +75,7 @@ fn noted(tally: Tally, count: u32) -> Tally
 }
 
 // What the host asks next: what a PDU asks, or a close of the number.
-fn next_asked(received: bool, pdu: &[u8], number: u32) -> Asked
+fn next_asked(received: bool, pdu: &[u8], number: u32) -> Asked<Matter>
     ensures { result ≡ asked_next received pdu.now number }
 {
     if received {

@@ -67,6 +67,6 @@ returns-in-CapsResponse c =
     let both = so_written a.pdu.now _ _ a.read _ _ _ w.value w.out_after
     (ap (again_of a.pdu.now) c.in-CapsResponse.is) in record { value = both.0; out_after = both.1 }
 
-pub returns-in-Err : goal.returns-in-Err
+pub returns-in-Refused : goal.returns-in-Refused
 unfolding again_of answer_to left_by
-returns-in-Err c = rw c.in-Err.is (record { value = refl; out_after = refl })
+returns-in-Refused c = rw c.in-Refused.is (record { value = refl; out_after = refl })
