@@ -9,16 +9,16 @@ ghost use Rattle.std.specs.Prelude.{◌≤◌, ◌≡◌, length};
 ghost use Rattle.judge.specs.Sender.{HEAD};
 
 use files::Failed;
-use judge::{HEAD, HEAD_MAX, NUMBER, Stand};
+use judge::{Course, HEAD, HEAD_MAX, NUMBER};
 use lines::LINE_MAX;
-use records::RECORD_MAX;
+use records::{RECORD_MAX, Stand};
 use std::io::Read;
 
 // The bytes of the input buffer: room for two records of the greatest length.
 const INPUT: usize = 2 * RECORD_MAX;
 
 // Says what the PDUs came to at the end of the input.
-fn say(rt: &(impl Print + Eprint), head: &[u8], stand: Stand) -> Result<(), Failed>
+fn say(rt: &(impl Print + Eprint), head: &[u8], stand: Stand<Course>) -> Result<(), Failed>
     ensures { head.now ≡ head.now }
 {
     let mut out = [0u8; LINE_MAX];
