@@ -6,18 +6,22 @@
 // and `counted N`, the sum of the counts. bench/plain.c prints the same from plain C.
 #![tactic(auto)]
 
-ghost use Rattle.std.specs.Prelude.{◌≡◌, ◌<◌, ◌≤◌, length};
+ghost use Rattle.std.specs.Prelude.{◌≡◌, ◌<◌, ◌≤◌, IfSome, IfOk, length};
 ghost use Rattle.bench.specs.Hosts.{asked_next};
 ghost use Rattle.bench.specs.Tallies.{plus, tallied, noted, no_calls, sum_of};
 
 use channel::Answer;
 use client::Asked;
-use files::{ARGUMENT, Filled};
+use deciding::Matter;
+use files::{ARGUMENT, Failed};
 use paper::PARTS;
 use std::rt::{Env, Files};
 
 // The most bytes that a file has.
 const FILE_MAX: usize = 2097152;
+
+// The first argument.
+const BENCH: &[u8] = b"bench";
 
 // Every count of rounds is below this.
 const ROUNDS_END: u64 = 1000000000;
@@ -40,7 +44,7 @@ struct Tally {
 fn plus(a: u64, b: u64) -> u64
     ensures { result ≡ plus a b }
 {
-    std::num::wrapping_add_u64(a, b)
+    a.wrapping_add(b)
 }
 
 // The tally with one more call for the answer's word.
@@ -49,14 +53,14 @@ fn tallied(tally: Tally, answer: Answer) -> Tally
 {
     let mut now = tally;
     match answer {
-        Answer::Ready { level: _ } => now.ready = plus(now.ready, 1),
-        Answer::Opened { number: _ } => now.opened = plus(now.opened, 1),
-        Answer::Declined { number: _, why: _ } => now.declined = plus(now.declined, 1),
-        Answer::Held { number: _, left: _ } => now.held = plus(now.held, 1),
-        Answer::Message { number: _, len: _ } => now.message = plus(now.message, 1),
-        Answer::Closed { number: _ } => now.closed = plus(now.closed, 1),
-        Answer::Ignored { number: _ } => now.ignored = plus(now.ignored, 1),
-        Answer::Refused { why: _, concern: _ } => now.refused = plus(now.refused, 1),
+        Answer::Ready { .. } => now.ready = plus(now.ready, 1),
+        Answer::Opened { .. } => now.opened = plus(now.opened, 1),
+        Answer::Declined { .. } => now.declined = plus(now.declined, 1),
+        Answer::Held { .. } => now.held = plus(now.held, 1),
+        Answer::Message { .. } => now.message = plus(now.message, 1),
+        Answer::Closed { .. } => now.closed = plus(now.closed, 1),
+        Answer::Ignored { .. } => now.ignored = plus(now.ignored, 1),
+        Answer::Refused { .. } => now.refused = plus(now.refused, 1),
     }
     now
 }
@@ -70,15 +74,8 @@ fn noted(tally: Tally, count: u32) -> Tally
     now
 }
 
-// The byte as a size.
-fn wide(byte: u8) -> usize
-    ensures { (result ≡ byte) × (result < 256) }
-{
-    byte as usize
-}
-
 // What the host asks next: what a PDU asks, or a close of the number.
-fn next_asked(received: bool, pdu: &[u8], number: u32) -> Asked
+fn next_asked(received: bool, pdu: &[u8], number: u32) -> Asked<Matter>
     ensures { result ≡ asked_next received pdu.now number }
 {
     if received {
@@ -96,12 +93,13 @@ fn one_round(file: &[u8], store: &mut [u8], reply: &mut [u8], before: Tally) -> 
     let mut tally = before;
     let mut at = 0;
     let mut closes = 0;
+    // Not a `for`: a turn takes a record, of any size, or closes a channel.
     while closes < PARTS {
         let mut start = at;
         let mut end = at;
         let mut number = 0;
         if 2 <= file.len() - at {
-            let n = wide(file[at]) + 256 * wide(file[at + 1]);
+            let n = u16::from_le_bytes([file[at], file[at + 1]]) as usize;
             start = at + 2;
             if file.len() - start < n {
                 at = file.len();
@@ -147,10 +145,8 @@ fn run(rt: &impl Env, rounds: u64, file: &[u8]) -> Tally
         refused: 0,
         counted: 0,
     };
-    let mut left = rounds;
-    while 0 < left {
+    for _ in 0..rounds {
         tally = one_round(file, &mut store, &mut reply, tally);
-        left -= 1;
     }
     tally
 }
@@ -164,7 +160,7 @@ fn sum(t: Tally) -> u64
     plus(first, last)
 }
 
-// Writes a word, a space and a number as a line. Answers how many lines were written.
+// Writes a word, a space and a number as a line. Answers how many lines were written, a number since they are added up.
 fn print_line(rt: &impl Print, word: &str, number: u64) -> usize
     ensures { result ≤ 1 }
 {
@@ -190,40 +186,32 @@ fn print_tally(rt: &impl Print, t: Tally) -> usize
         + print_line(rt, "counted", t.counted)
 }
 
-// The value of a decimal digit, or ten for any other byte.
-fn digit(byte: u8) -> u64
-    ensures { result ≤ 10 }
+// The value of a decimal digit, or nothing for any other byte.
+fn digit(byte: u8) -> Option<u64>
+    ensures { IfSome result (λ n. n < 10) }
 {
-    if byte < b'0' {
-        return 10;
+    if !byte.is_ascii_digit() {
+        return None;
     }
-    if b'9' < byte {
-        return 10;
-    }
-    (byte - b'0') as u64
+    Some((byte - b'0') as u64)
 }
 
-// The number that decimal digits make, or ROUNDS_END where they make none below it.
-fn count_of(text: &[u8]) -> u64
-    ensures { result ≤ 1000000000 }
+// The number that decimal digits make, or nothing where they make none below ROUNDS_END.
+fn count_of(text: &[u8]) -> Option<u64>
+    ensures { IfSome result (λ n. n < 1000000000) }
 {
-    if text.len() == 0 {
-        return ROUNDS_END;
+    if text.is_empty() {
+        return None;
     }
     let mut count = 0;
-    let mut i = 0;
-    while i < text.len() {
-        let next = digit(text[i]);
-        if 9 < next {
-            return ROUNDS_END;
-        }
+    for byte in text {
+        let next = digit(*byte)?;
         if ROUNDS_END / 10 <= count {
-            return ROUNDS_END;
+            return None;
         }
         count = 10 * count + next;
-        i += 1;
     }
-    count
+    Some(count)
 }
 
 // Reads the file into the room lent, and runs it. Answers how many lines were written. A file that can't be opened or
@@ -233,21 +221,16 @@ fn run_file(
     rounds: u64,
     path: &[u8],
     room: &mut [u8],
-) -> usize
-    ensures { result ≤ 10 }
+) -> Result<usize, Failed>
+    ensures { IfOk result (λ n. n ≤ 10) }
 {
-    let Some(mut file) = files::open(rt, path) else {
-        return 0;
-    };
-    let Filled::To(n) = files::load(rt, &mut file, path, room) else {
-        return 0;
-    };
+    let mut file = files::open(rt, path)?;
+    let n = files::load(rt, &mut file, path, room)?;
     if FILE_MAX < n {
         files::complain(rt, b"bench: the file is over 2 MiB\n");
-        return 0;
+        return Err(Failed);
     }
-    let end = lists::lesser(n, room.len());
-    print_tally(rt, run(rt, rounds, &room[..end]))
+    Ok(print_tally(rt, run(rt, rounds, &room[..n])))
 }
 
 // Room for a file, with one byte more than a file may have, so that a longer one shows.
@@ -258,27 +241,39 @@ fn room() -> [u8; FILE_MAX + 1]
 }
 
 // Lends room for the file.
-fn bench(rt: &(impl Env + Files + Print + Eprint), rounds: u64, path: &[u8]) -> usize
-    ensures { result ≤ 10 }
+fn bench(
+    rt: &(impl Env + Files + Print + Eprint),
+    rounds: u64,
+    path: &[u8],
+) -> Result<usize, Failed>
+    ensures { IfOk result (λ n. n ≤ 10) }
 {
     let mut room = room();
     run_file(rt, rounds, path, &mut room)
 }
 
-fn main(rt: HostRuntime) {
+// How many rounds are asked for, where the program is called as it is to be.
+fn asked(rt: &impl Env) -> Option<u64> {
+    if files::arguments(rt) != 3 {
+        return None;
+    }
     let mut word = [0u8; ARGUMENT];
-    let w = files::argument(&rt, 1, &mut word);
+    let n = files::argument(rt, 1, &mut word)?;
+    if &word[..n] != BENCH {
+        return None;
+    }
     let mut count = [0u8; ARGUMENT];
-    let c = files::argument(&rt, 2, &mut count);
-    let mut path = [0u8; ARGUMENT];
-    let p = files::argument(&rt, 3, &mut path);
-    let rounds = count_of(&count[..c]);
-    if files::arguments(&rt) != 3
-        || ROUNDS_END <= rounds
-        || !listeners::listed(b"bench\0", &word[..w])
-    {
+    let n = files::argument(rt, 2, &mut count)?;
+    count_of(&count[..n])
+}
+
+fn main(rt: HostRuntime) {
+    let Some(rounds) = asked(&rt) else {
         files::complain(&rt, b"usage: bench bench ROUNDS FILE\n");
         return;
-    }
-    bench(&rt, rounds, &path[..p]);
+    };
+    let mut path = [0u8; ARGUMENT];
+    // No file has a name that is too long: it comes as nothing, which can't be opened.
+    let n = files::argument(&rt, 3, &mut path).unwrap_or(0);
+    let _ = bench(&rt, rounds, &path[..n]);
 }

@@ -1,12 +1,14 @@
 -- The words of a list, low byte first, and their sum without a carry.
 -- Assumes nothing.
-use mathlib.Core.Path.{◌≡◌, refl, sym, ◌∙◌}
+use mathlib.Core.Path.{◌≡◌, refl, sym, ap, ◌∙◌}
 use mathlib.Core.List.{List, [], ◌∷◌, ◌++◌}
 use Prim.Native.Nat.{ℕ, suc, zero, ◌+◌, ◌*◌, ◌≤◌, ◌<◌}
 use native.Mathlib.Omega.{arith}
-use lib.ListN.{length, drop, get_or, set, length-set, drop_of_length-le}
-use lib.Seq.{drop-cons, get_or-set_same, get_or-set_other}
-use Rattle.numbers.specs.Numbers.{little, value_of, value_at}
+use lib.ListN.{length, take, drop, get_or, set, length-set, length-drop, drop_of_length-le}
+use lib.Seq.{drop-cons, drop-drop, length-take-le, get_or-set_same, get_or-set_other}
+use Rattle.std.specs.Int.{w16, to_le_bytes}
+use Rattle.std.specs.Simd.{first_chunks}
+use Rattle.numbers.specs.Numbers.{little, bytes_of, value_of, value_at}
 
 -- a word is its two bytes
 pub word_is : (l : List ℕ) (at : ℕ) → value_at l at 2 ≡ get_or l at 0 + 256 * get_or l (suc at) 0
@@ -74,3 +76,35 @@ word_other l k j x y h =
   where
     stays : (i : ℕ) → (i ≡ k + k → ⊥) → (i ≡ suc (k + k) → ⊥) → get_or (set (set l (k + k) x) (suc (k + k)) y) i 0 ≡ get_or l i 0
     stays i a b = get_or-set_other (set l (k + k) x) (suc (k + k)) i y 0 b ∙ get_or-set_other l (k + k) i x 0 a
+
+-- ---- a list as its words, one behind the other
+
+word_of : (k : ℕ) (l : List ℕ) (i : ℕ) (none : List ℕ) → i < k → get_or (first_chunks 2 k l) i none ≡ take 2 (drop (2 * i) l)
+word_of zero l i none h = absurd (omega arith)
+word_of (suc k) l zero none h = refl
+word_of (suc k) l (suc i) none h =
+    let e : 2 + 2 * i ≡ 2 * suc i = omega arith in
+    word_of k (drop 2 l) i none (omega arith) ∙ ap (take 2) (drop-drop (2 * i) 2 l) ∙ ap (λ (n : ℕ). take 2 (drop n l)) e
+
+two_is : (l : List ℕ) → length l ≡ 2 → value_of l ≡ get_or l 0 0 + 256 * get_or l 1 0
+unfolding value_of little
+two_is [] h = absurd (omega arith)
+two_is (x ∷ []) h = absurd (omega arith)
+two_is (x ∷ y ∷ []) h = omega arith
+two_is (x ∷ y ∷ z ∷ l) h = absurd (omega arith)
+
+-- the word of a place among them, and those behind it
+pub total_word : (l : List ℕ) (words : List (List ℕ)) (none : List ℕ) (i k : ℕ) → words ≡ first_chunks 2 k l → i < k → 2 * k ≤ length l
+    → total (drop (2 * i) l) ≡ get_or (get_or words i none) 0 0 + 256 * get_or (get_or words i none) 1 0 + total (drop (2 * (i + 1)) l)
+unfolding value_at
+total_word l words none i k e h r =
+    let word = take 2 (drop (2 * i) l) in
+    let is : get_or words i none ≡ word = ap (λ (ws : List (List ℕ)). get_or ws i none) e ∙ word_of k l i none h in
+    let two : length word ≡ 2 = length-take-le 2 (drop (2 * i) l) (rw length-drop (omega arith)) in
+    let next : 2 * (i + 1) ≡ 2 * i + 2 = omega arith in
+    rw (is, next) (total_on l (2 * i) (omega arith) ∙ ap (λ (v : ℕ). v + total (drop (2 * i + 2) l)) (two_is word two))
+
+-- a word's bytes, as the library has them
+pub bytes_word : (v : ℕ) → bytes_of 2 v ≡ to_le_bytes w16 v
+unfolding bytes_of
+bytes_word v = refl

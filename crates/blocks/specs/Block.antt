@@ -1,7 +1,8 @@
 -- "512-byte blocks: two bytes block number from 0, two bytes of payload used (0 to 504), two bytes place in the payload where the first
 -- record begins or 65,535 for none, two bytes check, then 504 payload bytes, unused ones zero."
-use Rattle.std.specs.Prelude.{ℕ, ◌+◌, ◌-◌, Bool, true, cond, ◌&&◌, ◌||◌, List, [], ◌∷◌, ◌++◌, ltb, leb, eqb, length, take, drop}
-use Rattle.lists.specs.Bytes.{zeros}
+use Rattle.std.specs.Prelude.{ℕ, ◌+◌, ◌-◌, Bool, cond, ◌&&◌, ◌||◌, List, ◌++◌, ltb, leb, eqb, length, take, drop}
+use Rattle.std.specs.List.{list_all}
+use Rattle.lists.specs.Bytes.{zeros, is_zero}
 use Rattle.numbers.specs.Numbers.{bytes_of, value_at}
 use Rattle.blocks.specs.Check.{check_of}
 
@@ -61,8 +62,7 @@ unfoldable pub may_begin : ℕ → ℕ → Bool
 may_begin used place = ltb place used || eqb place NONE
 
 unfoldable pub all_zero : List ℕ → Bool
-all_zero [] = true
-all_zero (byte ∷ bytes) = eqb byte 0 && all_zero bytes
+all_zero bytes = list_all is_zero bytes
 
 unfoldable pub is_good : Bool → ℕ → List ℕ → Bool
 is_good last number block =

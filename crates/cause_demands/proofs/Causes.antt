@@ -1,6 +1,7 @@
 -- Why the PDU at a place got its answer: a 13 has the note of its channel's record, which is the one event; any other refusal has the
 -- first rule that held.
 -- Assumes nothing.
+use Rattle.std.proofs.Common.{Option, None, Some}
 use mathlib.Core.Path.{◌≡◌, refl, sym, ap, ◌∙◌}
 use mathlib.Core.Logic.{◌≢◌}
 use mathlib.Core.Bool.{true, false}
@@ -15,8 +16,6 @@ use Rattle.paper.specs.declared.Refusal.{Refusal}
 use Rattle.paper.specs.declared.Refusal.TheVariants.{IsSpoiled}
 use Rattle.lists.specs.Bytes.{zeros}
 use Rattle.reading.specs.Reading.{read_pdu}
-use Rattle.channel.specs.declared.Concern.{Concern}
-use Rattle.channel.specs.declared.Concern.TheVariants.{Channel}
 use Rattle.channel.specs.declared.Answer.TheVariants.{Refused}
 use Rattle.channel.specs.Answers.{concern_of}
 use Rattle.table.specs.declared.Table.{Table}
@@ -32,13 +31,11 @@ use Rattle.rules.specs.declared.Rule.{Rule}
 use Rattle.rules.specs.declared.Rule.TheVariants.{Empty, Long, Command, CbId, LengthWidth, Ended, Pad, Version, LeftOver}
 use Rattle.rules.specs.declared.Rule.TheVariants.{ReadyAlready, NotReady, List as BadNames, OpenAlready, NotOpen, Spoiled}
 use Rattle.rules.specs.declared.Rule.TheVariants.{Joining, OverLimit, PastLength}
-use Rattle.rules.specs.declared.Broken.{Broken}
-use Rattle.rules.specs.declared.Broken.TheVariants.{NoRule, Broke}
 use Rattle.rules.specs.Rules.{refusal_of, the_rules, first_of, verdict_by}
 use Rattle.rules.proofs.Rules.{verdict_of_rules}
 use Rattle.cause.specs.declared.Note.{Note}
 use Rattle.cause.specs.declared.Cause.{Cause}
-use Rattle.cause.specs.declared.Cause.TheVariants.{NoCause, ByRule}
+use Rattle.cause.specs.declared.Cause.TheVariants.{ByRule}
 use Rattle.cause.specs.Notes.{note_at}
 use Rattle.cause.specs.Cause.{cause_named, cause_by, cause_of}
 use Rattle.cause_demands.specs.Why.{pdu_at, heard_in, before, event_at, answer_at, IsTheEvent, IsTheFirstRule}
@@ -72,18 +69,18 @@ plain Joining d = (refl, refl)
 plain OverLimit d = (refl, refl)
 plain PastLength d = (refl, refl)
 
-record Named (why : Refusal) (broken : Broken) (cause : Cause) : Type 0 where
+record Named (why : Refusal) (broken : Option Rule) (cause : Option Cause) : Type 0 where
   pub rule : Rule
-  pub named : cause ≡ ByRule rule
-  pub first : broken ≡ Broke rule
+  pub named : cause ≡ Some (ByRule rule)
+  pub first : broken ≡ Some rule
   pub refusal : refusal_of rule ≡ why
 
 by_rule :
-    (note : Note) (broken : Broken) (why : Refusal) → why ≢ IsSpoiled → refused_with why ≡ verdict_by broken
+    (note : Note) (broken : Option Rule) (why : Refusal) → why ≢ IsSpoiled → refused_with why ≡ verdict_by broken
     → Named why broken (cause_by note broken (refused_with why))
 unfolding verdict_by cause_by cause_named
-by_rule note NoRule why d e = let z : ◌≡◌ {A = ℕ} 0 1 = cc in absurd (omega arith)
-by_rule note (Broke rule) why d e =
+by_rule note None why d e = let z : ◌≡◌ {A = ℕ} 0 1 = cc in absurd (omega arith)
+by_rule note (Some rule) why d e =
     let is : refusal_of rule ≡ why = cc in
     let p = plain rule (λ f. d (sym is ∙ f)) in
     record { rule = rule; named = rw (← is, p.0, p.1) refl; first = refl; refusal = is }
@@ -115,7 +112,7 @@ module _ (list : List ℕ) (pdus : List (List ℕ)) (i : ℕ) where
   pdu = pdu_at pdus i
 
   -- the cause at the place
-  abbrev pub cause : Cause
+  abbrev pub cause : Option Cause
   cause = cause_of (notes_at list pdus i) table list pdu (heard_in list (before list pdus i) pdu).result
 
   verdict_at : verdict_of (answer_at list pdus i) ≡ verdict_by (first_of (the_rules table list pdu))
@@ -127,7 +124,7 @@ module _ (list : List ℕ) (pdus : List (List ℕ)) (i : ℕ) where
   -- ---- any refusal but 13
 
   pub names_the_rule :
-      (why : Refusal) (concern : Concern) → answer_at list pdus i ≡ Refused why concern → why ≢ IsSpoiled → IsTheFirstRule list pdus i why cause
+      (why : Refusal) (concern : Option ℕ) → answer_at list pdus i ≡ Refused why concern → why ≢ IsSpoiled → IsTheFirstRule list pdus i why cause
   unfolding cause_of answer_at
   names_the_rule why concern e d =
       let v = verdict_is (answer_at list pdus i) why concern e in
@@ -136,7 +133,7 @@ module _ (list : List ℕ) (pdus : List (List ℕ)) (i : ℕ) where
 
   -- ---- no refusal
 
-  pub names_none : verdict_of (answer_at list pdus i) ≡ fine → cause ≡ NoCause
+  pub names_none : verdict_of (answer_at list pdus i) ≡ fine → cause ≡ None
   unfolding cause_of answer_at cause_by
   names_none e = rw e refl
 
@@ -150,15 +147,15 @@ module _ (list : List ℕ) (pdus : List (List ℕ)) (i : ℕ) where
   table_stays (Of n a) = rw (thirteen_spoils_none a) refl
 
   -- so the place that comes with it is that of the channel's record
-  place_is : (n : ℕ) → answer_at list pdus i ≡ Refused IsSpoiled (Channel n) → (heard_in list (before list pdus i) pdu).result.place ≡ number_place n table
+  place_is : (n : ℕ) → answer_at list pdus i ≡ Refused IsSpoiled (Some n) → (heard_in list (before list pdus i) pdu).result.place ≡ number_place n table
   unfolding answer_at place_for concern_of
   place_is n e =
       let st = before list pdus i in
-      let left = (receive_refused table st.store list pdu (zeros REPLY_MIN) IsSpoiled (Channel n) (calm list pdus i).sane.rows e).left in
+      let left = (receive_refused table st.store list pdu (zeros REPLY_MIN) IsSpoiled (Some n) (calm list pdus i).sane.rows e).left in
       place_of (zeros REPLY_MIN) _ (heard_step list st (calm list pdus i).sane pdu)
       ∙ rw (e, left, table_stays (event_of list pdu (read_pdu true pdu))) refl
 
-  pub names_the_event : (concern : Concern) → answer_at list pdus i ≡ Refused IsSpoiled concern → IsTheEvent list pdus i concern cause
+  pub names_the_event : (concern : Option ℕ) → answer_at list pdus i ≡ Refused IsSpoiled concern → IsTheEvent list pdus i concern cause
   unfolding cause_of answer_at cause_by
   names_the_event concern e =
       let dead = step_dead (before list pdus i) (calm list pdus i).sane (event_at list pdus i) (mild list pdus i) (stray_at list pdus i) concern (sym (answer_is list pdus i) ∙ e) in

@@ -1,6 +1,7 @@
 -- WHY A CHANNEL IS DEAD, on one page. Each line has a statement, and where its proof is. The statements' text stands in specs/Why, over
 -- the run that the input is: Start, and then PDU by PDU what `receive` answers.
 -- Assumes nothing.
+use Rattle.std.proofs.Common.{Option, None, Some}
 use mathlib.Core.Path.{◌≡◌, sym, subst, ◌∙◌}
 use mathlib.Core.List.{List}
 use Prim.Native.Nat.{ℕ}
@@ -9,6 +10,7 @@ use Rattle.rules.specs.Examples.{FirstBroken}
 use Rattle.rules.proofs.Rules.{verdict_of_rules, pad_of_capabilities, version_of_capabilities}
 use Rattle.rules.proofs.Examples.{examples}
 use Rattle.cause.specs.declared.Cause.{Cause}
+use Rattle.cause.specs.declared.Said.{Said}
 use Rattle.cause.specs.Cause.{said_of}
 use Rattle.cause.proofs.Pieces as pieces
 use Rattle.cause_demands.specs.Why.{SaidOf, TheAnswerThere, AThirteenNamesTheEvent, OthersNameTheFirstRule, IsTheEvent, IsTheFirstRule}
@@ -29,12 +31,14 @@ the_answer_there =
     }
 
 -- what is said is one thing
+same_cause : (a b : Said) → Some a ≡ Some b → a.cause ≡ b.cause
+same_cause a b same = cc
+
 is_cause :
-    (list input : List ℕ) (place : ℕ) (cause : Cause) → SaidOf list input place cause → causes.cause list (pdus_in input) place ≡ cause
+    (list input : List ℕ) (place : ℕ) (cause : Option Cause) → SaidOf list input place cause → causes.cause list (pdus_in input) place ≡ cause
 unfolding said_of
 is_cause list input place cause s =
-    let same = sym (ways.says place list (pdus_in input) s.counted s.whole) ∙ s.said in
-    cc
+    same_cause _ _ (sym (ways.says place list (pdus_in input) s.counted s.whole) ∙ s.said)
 
 -- "for a 13, the place and refusal that spoiled the channel. That is the one event since the channel's last opening that turned it from
 -- not spoiled to spoiled"

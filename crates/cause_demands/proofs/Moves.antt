@@ -1,6 +1,7 @@
 -- What a step makes of each record: it is free then; or it was free, and its channel has just been opened; or it holds the same
 -- number, and turned spoiled only by a refusal of an event of that number, one of 2 to 5 or of 10 to 12.
 -- Assumes nothing.
+use Rattle.std.specs.Prelude.{Option, None, Some}
 use mathlib.Core.Path.{◌≡◌, refl, sym, ap, ◌∙◌}
 use mathlib.Core.Bool.{Bool, true, false, ◌||◌}
 use mathlib.Core.List.{List}
@@ -15,8 +16,6 @@ use Rattle.lists.proofs.Cases.{true_not_false}
 use Rattle.channel.specs.declared.Stage.{Stage}
 use Rattle.channel.specs.declared.Stage.TheVariants.{Idle, Joining, Spoiled}
 use Rattle.channel.specs.declared.Record.{Record}
-use Rattle.channel.specs.declared.Concern.{Concern}
-use Rattle.channel.specs.declared.Concern.TheVariants.{NoChannel, Channel}
 use Rattle.channel.specs.declared.Offer.{Offer}
 use Rattle.channel.specs.declared.Took.{Took}
 use Rattle.channel.specs.declared.Took.TheVariants.{Bars, Spoils, Holds, Finishes}
@@ -44,7 +43,7 @@ use Rattle.steps.proofs.Leaves.{Right, took_right, MildAct, Mild, of_reading}
 -- a refusal that spoils
 pub record Spoiling (answer : Answer) : Type 0 where
   pub why : Refusal
-  pub concern : Concern
+  pub concern : Option ℕ
   pub refused : answer ≡ Refused why concern
   pub which : (is_of_reading why || is_of_three why) ≡ true
 
@@ -84,7 +83,7 @@ landed_turns n r part block (Spoils why) s h = (
     taken = refl;
     number = refl;
     still = λ e. refl;
-    turns = λ e f. record { why = why; concern = Channel n; refused = refl; which = rw s.0 (or_true (is_of_reading why)) };
+    turns = λ e f. record { why = why; concern = Some n; refused = refl; which = rw s.0 (or_true (is_of_reading why)) };
   },
 )
 landed_turns n r part block (Holds wanted at held) s h =
@@ -114,7 +113,7 @@ act_turns level n room r b (Garbled why) m = (
     taken = refl;
     number = refl;
     still = λ e. refl;
-    turns = λ e f. record { why = why; concern = NoChannel; refused = refl; which = rw (of_reading why m).one };
+    turns = λ e f. record { why = why; concern = None; refused = refl; which = rw (of_reading why m).one };
   },
 )
 act_turns level n room r b Closing m = refl

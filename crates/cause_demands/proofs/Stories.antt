@@ -1,6 +1,7 @@
 -- The notes in a run: where a record holds a channel that is spoiled, its note is the one event that spoiled it; where it isn't,
 -- nothing has since its opening. By what each step makes of each record.
 -- Assumes nothing.
+use Rattle.std.specs.Prelude.{Option}
 use mathlib.Core.Path.{◌≡◌, refl, sym, ap, subst, ◌∙◌}
 use mathlib.Core.Bool.{Bool, true, false, not, ◌&&◌, ◌||◌}
 use mathlib.Core.Logic.{⊎_elim}
@@ -13,7 +14,6 @@ use Rattle.paper.specs.Rows.{Verdict, fine, refused_with}
 use Rattle.paper.specs.declared.Refusal.{Refusal}
 use Rattle.lists.proofs.Cases.{true_not_false, lt_or_le}
 use Rattle.channel.specs.declared.Record.{Record}
-use Rattle.channel.specs.declared.Concern.{Concern}
 use Rattle.channel.specs.declared.Answer.{Answer}
 use Rattle.channel.specs.declared.Answer.TheVariants.{Opened, Refused}
 use Rattle.table.specs.declared.Table.{Table}
@@ -51,7 +51,7 @@ note_set :
 unfolding notes_after
 note_set i v why t u notes k h f e = rw f (noted_at _ t u notes k h ∙ rw e refl)
 
-pub verdict_is : (answer : Answer) (why : Refusal) (concern : Concern) → answer ≡ Refused why concern → verdict_of answer ≡ refused_with why
+pub verdict_is : (answer : Answer) (why : Refusal) (concern : Option ℕ) → answer ≡ Refused why concern → verdict_of answer ≡ refused_with why
 unfolding verdict_of
 verdict_is answer why concern e = rw e
 
@@ -82,7 +82,7 @@ module _ (list : List ℕ) (pdus : List (List ℕ)) where
     pub calm : (j : ℕ) → opening.at < j → j ≤ q → OpenAnd false n j
     pub dead : (j : ℕ) → q < j → j ≤ i → OpenAnd true n j
     pub own : is_of n (event_at list pdus q) ≡ true
-    pub concern : Concern
+    pub concern : Option ℕ
     pub refused : answer_at list pdus q ≡ Refused why concern
     pub which : (is_of_reading why || is_of_three why) ≡ true
 

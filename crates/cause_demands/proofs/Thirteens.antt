@@ -1,5 +1,6 @@
 -- A 13 is answered for data on an open channel that is spoiled, and for nothing else; it leaves the table.
 -- Assumes nothing.
+use Rattle.std.specs.Prelude.{Option, None, Some}
 use mathlib.Core.Path.{◌≡◌, refl, sym, ap, ◌∙◌}
 use mathlib.Core.Bool.{Bool, true, false}
 use mathlib.Core.List.{List}
@@ -16,8 +17,6 @@ use Rattle.paper.specs.declared.Refusal.TheVariants.{WrongTime, IsSpoiled}
 use Rattle.lists.proofs.Cases.{choice, true_not_false}
 use Rattle.reading.specs.Reading.{read_pdu}
 use Rattle.reading.specs.Garbled.{carries}
-use Rattle.reading.specs.declared.Carried.{Carried}
-use Rattle.reading.specs.declared.Carried.TheVariants.{NoNumber, Number}
 use Rattle.reading.specs.declared.Pdu.{Pdu}
 use Rattle.reading.specs.declared.Pdu.TheVariants.{CreateRequest, CreateResponse, DataFirst, Data, Close, CapsRequest, CapsResponse, Refused as NotRead}
 use Rattle.reading.proofs.Placed.{ReadingRefusal, Placed, placed}
@@ -27,8 +26,6 @@ use Rattle.channel.specs.declared.Record.{Record}
 use Rattle.channel.specs.declared.Offer.{Offer}
 use Rattle.channel.specs.declared.Offer.TheVariants.{First, More}
 use Rattle.channel.specs.declared.Took.{Took}
-use Rattle.channel.specs.declared.Concern.{Concern}
-use Rattle.channel.specs.declared.Concern.TheVariants.{NoChannel, Channel}
 use Rattle.channel.specs.declared.Answer.{Answer}
 use Rattle.channel.specs.declared.Answer.TheVariants.{Ready, Refused}
 use Rattle.channel.specs.Stages.{added, took_first, took}
@@ -56,7 +53,7 @@ thirteenth (refused_with why) = eqb (refusal_number why) 13
 abbrev thirteen : Answer → Bool
 thirteen answer = thirteenth (verdict_of answer)
 
-not_one : {A : Type 0} {answer : Answer} (c : Concern) → answer ≡ Refused IsSpoiled c → thirteen answer ≡ false → A
+not_one : {A : Type 0} {answer : Answer} (c : Option ℕ) → answer ≡ Refused IsSpoiled c → thirteen answer ≡ false → A
 unfolding verdict_of
 not_one c e h = absurd (true_not_false (sym (ap thirteen e) ∙ h))
 
@@ -84,23 +81,23 @@ took_none n Spoiled offer m h = absurd (true_not_false h)
 -- ---- what one channel's rules answer
 
 -- the channel is open and spoiled, and the refusal concerns it
-record Dead (n : ℕ) (v : View) (c : Concern) : Type 0 where
+record Dead (n : ℕ) (v : View) (c : Option ℕ) : Type 0 where
   pub row : Record
   pub part : List ℕ
   pub is : v ≡ Open row part
   pub spoiled : is_spoiled row.stage ≡ true
-  pub concerned : c ≡ Channel n
+  pub concerned : c ≡ Some n
 
 took_spoiled :
-    (n : ℕ) (stage : Stage) (offer : Offer) (m : ℕ) (c : Concern) → is_spoiled stage ≡ true
-    → answer_to n (took stage offer m) ≡ Refused IsSpoiled c → c ≡ Channel n
+    (n : ℕ) (stage : Stage) (offer : Offer) (m : ℕ) (c : Option ℕ) → is_spoiled stage ≡ true
+    → answer_to n (took stage offer m) ≡ Refused IsSpoiled c → c ≡ Some n
 unfolding is_spoiled took answer_to
 took_spoiled n Idle offer m c h e = absurd (true_not_false (sym h))
 took_spoiled n (Joining wanted held) offer m c h e = absurd (true_not_false (sym h))
 took_spoiled n Spoiled offer m c h e = cc
 
 block_dead :
-    (n : ℕ) (r : Record) (b block : List ℕ) (offer : Offer) (c : Concern) (t : Bool) → is_spoiled r.stage ≡ t
+    (n : ℕ) (r : Record) (b block : List ℕ) (offer : Offer) (c : Option ℕ) (t : Bool) → is_spoiled r.stage ≡ t
     → (landed n r b block (took r.stage offer (length block))).answer ≡ Refused IsSpoiled c → Dead n (Open r b) c
 unfolding landed
 block_dead n r b block offer c true h e =
@@ -113,7 +110,7 @@ opening_none level n pri NoRoom = refl
 opening_none level n pri (Spare p) = refl
 
 act_dead :
-    (level n : ℕ) (room : Room) (v : View) (a : Act) (c : Concern) → MildAct a → (act level n room v a).answer ≡ Refused IsSpoiled c
+    (level n : ℕ) (room : Room) (v : View) (a : Act) (c : Option ℕ) → MildAct a → (act level n room v a).answer ≡ Refused IsSpoiled c
     → Dead n v c
 unfolding act verdict_of
 act_dead level n room Shut BadCreate c m e = not_one c e refl
@@ -137,10 +134,10 @@ Stray (Unreadable why) = eqb (refusal_number why) 13 ≡ false
 Stray (Capabilities version) = Unit {0}
 Stray (Of n a) = Unit {0}
 
-unread_stray : (why : Refusal) (carried : Carried) → ReadingRefusal why → Stray (unread why carried)
+unread_stray : (why : Refusal) (carried : Option ℕ) → ReadingRefusal why → Stray (unread why carried)
 unfolding unread
-unread_stray why NoNumber h = small why (of_reading why h).no_channel
-unread_stray why (Number n) h = tt
+unread_stray why None h = small why (of_reading why h).no_channel
+unread_stray why (Some n) h = tt
 
 pdu_stray : (list pdu : List ℕ) (p : Pdu) → Placed pdu p → Stray (event_of list pdu p)
 unfolding event_of
@@ -159,15 +156,15 @@ stray list pdu = pdu_stray list pdu (read_pdu true pdu) (placed pdu true)
 -- ---- a step
 
 -- the record of the channel that a 13 concerns
-pub record DeadRecord (st : State) (c : Concern) : Type 0 where
+pub record DeadRecord (st : State) (c : Option ℕ) : Type 0 where
   pub channel : ℕ
-  pub concerned : c ≡ Channel channel
+  pub concerned : c ≡ Some channel
   pub inside : number_place channel st.table < PARTS
   pub taken : (record_at st.table (number_place channel st.table)).taken ≡ true
   pub number : (record_at st.table (number_place channel st.table)).number ≡ channel
   pub spoiled : is_spoiled (record_at st.table (number_place channel st.table)).stage ≡ true
 
-seen_dead : (n : ℕ) (st : State) → Sane st → (c : Concern) → Dead n (view n st) c → DeadRecord st c
+seen_dead : (n : ℕ) (st : State) → Sane st → (c : Option ℕ) → Dead n (view n st) c → DeadRecord st c
 seen_dead n st s c d =
     let o = opened n st d.row d.part d.is in
     let held = holds_says n (record_at st.table (number_place n st.table)) (number_holds n st.table (rw s.rows o.0)) in
@@ -181,13 +178,13 @@ seen_dead n st s c d =
     }
 
 pub step_dead :
-    (st : State) → Sane st → (e : Event) → Mild e → Stray e → (c : Concern) → (stepped st e).answer ≡ Refused IsSpoiled c → DeadRecord st c
+    (st : State) → Sane st → (e : Event) → Mild e → Stray e → (c : Option ℕ) → (stepped st e).answer ≡ Refused IsSpoiled c → DeadRecord st c
 unfolding stepped readied verdict_of
 step_dead st s (Unreadable why) m t c h = not_one c h t
 step_dead st s (Capabilities version) m t c h = go st.table.ready refl
   where
     go : (b : Bool) → st.table.ready ≡ b → DeadRecord st c
-    go true e = not_one {answer = Refused WrongTime NoChannel} c (rw (too_late st version e) at h) refl
+    go true e = not_one {answer = Refused WrongTime None} c (rw (too_late st version e) at h) refl
     go false e = not_one {answer = Ready (level_for version)} c (rw (made_ready st version e) at h) refl
 step_dead st s (Of n a) m t c h = go st.table.ready refl
   where
@@ -196,4 +193,4 @@ step_dead st s (Of n a) m t c h = go st.table.ready refl
         seen_dead n st s c
         (act_dead st.table.level n (room_in st) (view n st) a c m (sym (step_answer st (sane_steady st s e) n a) ∙ h))
     go false e =
-        not_one {answer = Refused (too_soon a) NoChannel} c (rw (too_early st n a e) at h) (small (too_soon a) (soon_says a m).1)
+        not_one {answer = Refused (too_soon a) None} c (rw (too_early st n a e) at h) (small (too_soon a) (soon_says a m).1)

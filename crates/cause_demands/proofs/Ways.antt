@@ -1,6 +1,7 @@
 -- The search on its way: before the place it has the run's table, store and notes and says nothing; at the place it says what the PDU
 -- there got; and from there on that.
 -- Assumes nothing.
+use Rattle.std.proofs.Common.{Option, None, Some}
 use mathlib.Core.Path.{◌≡◌, refl, sym, ap, ◌∙◌}
 use mathlib.Core.List.{List, [], ◌∷◌}
 use Prim.Native.Nat.{ℕ, zero, suc, ◌+◌, ◌%◌, ◌≤◌, ◌<◌}
@@ -13,7 +14,6 @@ use Rattle.records.specs.Records.{PLACES}
 use Rattle.records.specs.Items.{after_items}
 use Rattle.records.proofs.Items.{over_both}
 use Rattle.cause.specs.declared.Cause.{Cause}
-use Rattle.cause.specs.declared.Said.TheVariants.{NotYet, Of}
 use Rattle.cause.specs.Cause.{cause_of, Way, said_by, course_on, way_after, start_course, start_way}
 use Rattle.cause_demands.specs.Why.{pdu_at, heard_in, before, answer_at, sent_at}
 use Rattle.cause_demands.proofs.Stories.{notes_at}
@@ -32,8 +32,8 @@ module _ {S : Type 0} (step : S → List ℕ → S) where
 -- ---- what is said stays
 
 stays_said :
-    (sought : ℕ) (list : List ℕ) (w : Way) (pdus : List (List ℕ)) (answer : Answer) (sent : ℕ) (cause : Cause)
-    → w.course.said ≡ Of answer sent cause → (after_items (way_after sought list) w pdus).course.said ≡ Of answer sent cause
+    (sought : ℕ) (list : List ℕ) (w : Way) (pdus : List (List ℕ)) (answer : Answer) (sent : ℕ) (cause : Option Cause)
+    → w.course.said ≡ Some (record { answer = answer; sent = sent; cause = cause }) → (after_items (way_after sought list) w pdus).course.said ≡ Some (record { answer = answer; sent = sent; cause = cause })
 unfolding after_items way_after course_on said_by
 stays_said sought list w [] answer sent cause h = h
 stays_said sought list w (pdu ∷ pdus) answer sent cause h =
@@ -47,12 +47,12 @@ module _ (sought : ℕ) (list : List ℕ) (pdus : List (List ℕ)) (counted : so
   abbrev stood : ℕ → Way
   stood i =
       record {
-        course = record { table = (before list pdus i).table; notes = notes_at list pdus i; place = i; said = NotYet };
+        course = record { table = (before list pdus i).table; notes = notes_at list pdus i; place = i; said = None };
         store = (before list pdus i).store;
       }
 
   -- the cause at a place
-  abbrev pub cause_at : ℕ → Cause
+  abbrev pub cause_at : ℕ → Option Cause
   cause_at i = cause_of (notes_at list pdus i) (before list pdus i).table list (pdu_at pdus i) (heard_in list (before list pdus i) (pdu_at pdus i)).result
 
   one_on : (i : ℕ) → suc i ≤ sought → way_after sought list (stood i) (pdu_at pdus i) ≡ stood (suc i)
@@ -69,12 +69,12 @@ module _ (sought : ℕ) (list : List ℕ) (pdus : List (List ℕ)) (counted : so
       one_more (way_after sought list) start_way pdus i h
       ∙ ap (λ (w : Way). way_after sought list w (pdu_at pdus i)) (is_there i (omega arith) (omega arith)) ∙ one_on i k
 
-  said_at : (way_after sought list (stood sought) (pdu_at pdus sought)).course.said ≡ Of (answer_at list pdus sought) (sent_at list pdus sought) (cause_at sought)
+  said_at : (way_after sought list (stood sought) (pdu_at pdus sought)).course.said ≡ Some (record { answer = answer_at list pdus sought; sent = sent_at list pdus sought; cause = cause_at sought })
   unfolding way_after course_on said_by answer_at sent_at
   said_at = rw (eq-eqb sought sought refl) refl
 
   pub says : sought < length pdus
-      → (after_items (way_after sought list) start_way pdus).course.said ≡ Of (answer_at list pdus sought) (sent_at list pdus sought) (cause_at sought)
+      → (after_items (way_after sought list) start_way pdus).course.said ≡ Some (record { answer = answer_at list pdus sought; sent = sent_at list pdus sought; cause = cause_at sought })
   says h =
       ap (λ (w : Way). w.course.said) (and_the_rest (way_after sought list) start_way pdus (suc sought))
       ∙ stays_said sought list (after (suc sought)) (drop (suc sought) pdus) _ _ _
@@ -82,7 +82,7 @@ module _ (sought : ℕ) (list : List ℕ) (pdus : List (List ℕ)) (counted : so
       (one_more (way_after sought list) start_way pdus sought h
       ∙ ap (λ (w : Way). way_after sought list w (pdu_at pdus sought)) (is_there sought (omega arith) (omega arith))) ∙ said_at)
 
-  pub says_nothing : length pdus ≤ sought → (after_items (way_after sought list) start_way pdus).course.said ≡ NotYet
+  pub says_nothing : length pdus ≤ sought → (after_items (way_after sought list) start_way pdus).course.said ≡ None
   says_nothing h =
       ap (λ (w : Way). w.course.said)
       (ap (after_items (way_after sought list) start_way) (sym (take_all (length pdus) pdus (omega arith)))

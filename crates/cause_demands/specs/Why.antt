@@ -1,5 +1,5 @@
 -- Why is this channel dead? What is said of a place of the walker's input, beside the run that the input is.
-use Rattle.std.specs.Prelude.{ℕ, zero, suc, ◌/◌, ◌<◌, ◌≤◌, ◌≡◌, ◌≢◌, Bool, true, false, ◌||◌, List, [], ◌++◌, length, take, get_or}
+use Rattle.std.specs.Prelude.{ℕ, zero, suc, ◌/◌, ◌<◌, ◌≤◌, ◌≡◌, ◌≢◌, Bool, true, false, ◌||◌, Option, None, Some, List, [], ◌++◌, length, take, get_or}
 use Rattle.paper.specs.Sizes.{STORE, REPLY_MIN}
 use Rattle.paper.specs.Commands.{CAPABILITIES}
 use Rattle.paper.specs.Rows.{fine, first_held}
@@ -8,8 +8,6 @@ use Rattle.paper.specs.declared.Refusal.TheVariants.{IsSpoiled}
 use Rattle.lists.specs.Bytes.{zeros}
 use Rattle.reading.specs.Reading.{read_pdu}
 use Rattle.reading.specs.Layouts.{reading_rows}
-use Rattle.channel.specs.declared.Concern.{Concern}
-use Rattle.channel.specs.declared.Concern.TheVariants.{Channel}
 use Rattle.channel.specs.declared.Answer.{Answer}
 use Rattle.channel.specs.declared.Answer.TheVariants.{Opened, Refused}
 use Rattle.table.specs.declared.Table.{Table}
@@ -23,7 +21,6 @@ use Rattle.lines.specs.Decimal.{field}
 use Rattle.lines.specs.Lines.{SPACE, LF, answer_fields}
 use Rattle.rules.specs.declared.Rule.{Rule}
 use Rattle.rules.specs.declared.Rule.TheVariants.{Pad, Version}
-use Rattle.rules.specs.declared.Broken.TheVariants.{Broke}
 use Rattle.rules.specs.Rules.{refusal_of, reading_rules, the_rules, first_of, verdict_by}
 use Rattle.records.specs.Records.{PLACES, whole_of}
 use Rattle.records.specs.Walks.{records_of, after_all}
@@ -33,8 +30,7 @@ use Rattle.walking.specs.declared.Job.TheVariants.{Client}
 use Rattle.walking.specs.declared.Told.TheVariants.{Lines}
 use Rattle.walking.specs.Walking.{program, start_walk, text_of}
 use Rattle.cause.specs.declared.Cause.{Cause}
-use Rattle.cause.specs.declared.Cause.TheVariants.{NoCause, SpoiledBy, ByRule}
-use Rattle.cause.specs.declared.Said.TheVariants.{NotYet, Of}
+use Rattle.cause.specs.declared.Cause.TheVariants.{SpoiledBy, ByRule}
 use Rattle.cause.specs.Cause.{said_of, said_in_pieces}
 use Rattle.demands.specs.Runs.{leaves}
 
@@ -96,20 +92,21 @@ pub record TheOneEvent (list : List ℕ) (pdus : List (List ℕ)) (n place : ℕ
       (i : ℕ) → opening.at < i → i < place → spoiled_before list pdus n i ≡ false → spoiled_before list pdus n (suc i) ≡ true
       → i ≡ q
   -- the refusal is the answer there, one of 2 to 5 or of 10 to 12
-  pub concern : Concern
+  pub concern : Option ℕ
   pub refused : answer_at list pdus q ≡ Refused why concern
   pub which : (is_of_reading why || is_of_three why) ≡ true
 
 -- ---- "names, for a given place in it, the answer there"
 
 -- a cause is said of a place that the input has whole, with the answer there. Places are counted in 64 bits
-pub record SaidOf (list input : List ℕ) (place : ℕ) (cause : Cause) : Type 0 where
+pub record SaidOf (list input : List ℕ) (place : ℕ) (cause : Option Cause) : Type 0 where
   pub whole : place < length (pdus_in input)
   pub counted : place < PLACES
-  pub said : said_of place list input ≡ Of (answer_at list (pdus_in input) place) (sent_at list (pdus_in input) place) cause
+  pub said : said_of place list input
+      ≡ Some (record { answer = answer_at list (pdus_in input) place; sent = sent_at list (pdus_in input) place; cause = cause })
 
 pub record SomethingIsSaid (list input : List ℕ) (place : ℕ) : Type 0 where
-  pub cause : Cause
+  pub cause : Option Cause
   pub is_said : SaidOf list input place cause
 
 pub record TheAnswerThere : Type 0 where
@@ -118,7 +115,7 @@ pub record TheAnswerThere : Type 0 where
       (list input : List ℕ) (place : ℕ) → place < length (pdus_in input) → place < PLACES
       → SomethingIsSaid list input place
   -- "A place that the input doesn't have whole is answered as such."
-  pub absent : (list input : List ℕ) (place : ℕ) → length (pdus_in input) ≤ place → place < PLACES → said_of place list input ≡ NotYet
+  pub absent : (list input : List ℕ) (place : ℕ) → length (pdus_in input) ≤ place → place < PLACES → said_of place list input ≡ None
   -- the answer is the walker's: what the walker writes for the record there is the place and then the answer's fields
   pub the-walker's :
       (list input : List ℕ) (place : ℕ) → place < length (pdus_in input) → place < PLACES
@@ -131,42 +128,42 @@ pub record TheAnswerThere : Type 0 where
 
 -- ---- "and, for a 13, the place and refusal that spoiled the channel"
 
-pub record IsTheEvent (list : List ℕ) (pdus : List (List ℕ)) (place : ℕ) (concern : Concern) (cause : Cause) : Type 0 where
+pub record IsTheEvent (list : List ℕ) (pdus : List (List ℕ)) (place : ℕ) (concern : Option ℕ) (cause : Option Cause) : Type 0 where
   pub channel : ℕ
-  pub concerned : concern ≡ Channel channel
+  pub concerned : concern ≡ Some channel
   pub at : ℕ
   pub why : Refusal
-  pub named : cause ≡ SpoiledBy at why
+  pub named : cause ≡ Some (SpoiledBy at why)
   pub event : TheOneEvent list pdus channel place at why
 
 abbrev pub AThirteenNamesTheEvent : Type 0
 AThirteenNamesTheEvent =
-    (list input : List ℕ) (place : ℕ) (cause : Cause) → SaidOf list input place cause
-    → (concern : Concern) → answer_at list (pdus_in input) place ≡ Refused IsSpoiled concern
+    (list input : List ℕ) (place : ℕ) (cause : Option Cause) → SaidOf list input place cause
+    → (concern : Option ℕ) → answer_at list (pdus_in input) place ≡ Refused IsSpoiled concern
     → IsTheEvent list (pdus_in input) place concern cause
 
 -- ---- "For any other refusal it names the first rule in the order that held."
 
-pub record IsTheFirstRule (list : List ℕ) (pdus : List (List ℕ)) (place : ℕ) (why : Refusal) (cause : Cause) : Type 0 where
+pub record IsTheFirstRule (list : List ℕ) (pdus : List (List ℕ)) (place : ℕ) (why : Refusal) (cause : Option Cause) : Type 0 where
   pub rule : Rule
-  pub named : cause ≡ ByRule rule
+  pub named : cause ≡ Some (ByRule rule)
   -- the first in the order that holds for that PDU at that state, and its refusal is the answer's
-  pub first : first_of (the_rules (before list pdus place).table list (pdu_at pdus place)) ≡ Broke rule
+  pub first : first_of (the_rules (before list pdus place).table list (pdu_at pdus place)) ≡ Some rule
   pub refusal : refusal_of rule ≡ why
 
 pub record OthersNameTheFirstRule : Type 0 where
   pub any_other :
-      (list input : List ℕ) (place : ℕ) (cause : Cause) → SaidOf list input place cause
-      → (why : Refusal) (concern : Concern) → answer_at list (pdus_in input) place ≡ Refused why concern → why ≢ IsSpoiled
+      (list input : List ℕ) (place : ℕ) (cause : Option Cause) → SaidOf list input place cause
+      → (why : Refusal) (concern : Option ℕ) → answer_at list (pdus_in input) place ≡ Refused why concern → why ≢ IsSpoiled
       → IsTheFirstRule list (pdus_in input) place why cause
   -- what is accepted has no cause
   pub accepted :
-      (list input : List ℕ) (place : ℕ) (cause : Cause) → SaidOf list input place cause
-      → verdict_of (answer_at list (pdus_in input) place) ≡ fine → cause ≡ NoCause
+      (list input : List ℕ) (place : ℕ) (cause : Option Cause) → SaidOf list input place cause
+      → verdict_of (answer_at list (pdus_in input) place) ≡ fine → cause ≡ None
   -- the rules are the rows that have names beside them: the first that holds is the first row that does, at any table
   pub by_the_rows :
       (t : Table) (list pdu : List ℕ)
       → first_held (reading_rows true pdu ++ rows_of t list (read_pdu true pdu)) ≡ verdict_by (first_of (the_rules t list pdu))
   -- `pad` and `version` are named of Capabilities alone
-  pub pad_of_capabilities : (pdu : List ℕ) → first_of (reading_rules pdu) ≡ Broke Pad → get_or pdu 0 0 / 16 ≡ CAPABILITIES
-  pub version_of_capabilities : (pdu : List ℕ) → first_of (reading_rules pdu) ≡ Broke Version → get_or pdu 0 0 / 16 ≡ CAPABILITIES
+  pub pad_of_capabilities : (pdu : List ℕ) → first_of (reading_rules pdu) ≡ Some Pad → get_or pdu 0 0 / 16 ≡ CAPABILITIES
+  pub version_of_capabilities : (pdu : List ℕ) → first_of (reading_rules pdu) ≡ Some Version → get_or pdu 0 0 / 16 ≡ CAPABILITIES

@@ -1,5 +1,6 @@
 -- A turn tells what the rules do, on any bytes of the part and of the block: case by case, both sides compute to the same.
 -- Assumes nothing.
+use Rattle.std.specs.Prelude.{None, Some}
 use mathlib.Core.Path.{◌≡◌, refl, sym, ap, ◌∙◌}
 use mathlib.Core.Bool.{Bool, true, false, not, cond}
 use mathlib.Core.Logic.{◌⊎◌, inl, inr}
@@ -8,25 +9,21 @@ use Prim.Native.Nat.{ℕ}
 use lib.ListN.{length}
 use borrow.Author.Tests.{not-false}
 use Rattle.lists.proofs.Cases.{choice, true_not_false}
-use Rattle.paper.specs.Statuses.{OPENED, UNLISTED, FULL}
 use Rattle.paper.specs.declared.Refusal.{Refusal}
-use Rattle.paper.specs.declared.Refusal.TheVariants.{NotOpen, AlreadyOpen}
+use Rattle.paper.specs.declared.Refusal.TheVariants.{NotOpen}
 use Rattle.channel.specs.declared.Stage.{Stage}
 use Rattle.channel.specs.declared.Record.{Record}
 use Rattle.channel.specs.declared.Offer.{Offer}
 use Rattle.channel.specs.declared.Took.{Took}
 use Rattle.channel.specs.declared.Took.TheVariants.{Bars, Spoils, Holds, Finishes}
-use Rattle.channel.specs.declared.Decline.TheVariants.{Unlisted, Full}
-use Rattle.channel.specs.declared.Concern.TheVariants.{NoChannel, Channel}
 use Rattle.channel.specs.declared.Answer.{Answer}
-use Rattle.channel.specs.declared.Answer.TheVariants.{Opened, Closed, Ignored, Refused}
+use Rattle.channel.specs.declared.Answer.TheVariants.{Refused}
 use Rattle.channel.specs.declared.Ask.{Ask}
 use Rattle.channel.specs.declared.Ask.TheVariants.{NoList, Name, Block, End}
 use Rattle.channel.specs.declared.Change.{Change}
 use Rattle.channel.specs.declared.Change.TheVariants.{Stays, Becomes, Frees}
 use Rattle.channel.specs.declared.Part.{Part}
 use Rattle.channel.specs.declared.Part.TheVariants.{Keeps, Clears}
-use Rattle.channel.specs.declared.Reply.TheVariants.{Status, CloseBack}
 use Rattle.channel.specs.declared.Turn.{Turn}
 use Rattle.channel.specs.Answers.{concern_of}
 use Rattle.channel.specs.Stages.{took}
@@ -47,24 +44,7 @@ use Rattle.channel.specs.Channel.{
   landed,
   rebuilt,
 }
-use Rattle.channel.specs.Turns.{
-  turn,
-  answering,
-  declining,
-  creating,
-  change_by,
-  part_by,
-  landing,
-  bringing,
-  garbling,
-  closing,
-  turn_of,
-  view_of,
-  room_of,
-  act_of,
-  part_told,
-  reply_told,
-}
+use Rattle.channel.specs.Turns.{answering, creating, change_by, part_by, landing, bringing, garbling, closing, turn_of, view_of, room_of, act_of, part_told, reply_told}
 
 -- the channel afterwards. What stays keeps its part, and only an open channel is freed, its part cleared.
 abbrev pub Comes : Record → List ℕ → List ℕ → Change → Part → View → Type 0
@@ -82,48 +62,13 @@ pub view_open : (row : Record) (part : List ℕ) → row.taken ≡ true → view
 unfolding view_of
 view_open row part e = ap (λ (b : Bool). cond b (Open row part) Shut) e
 
--- ---- each turn by its tests, as the code comes to it
-
-module _ (level n : ℕ) (room : Bool) (row : Record) (listed : Bool) (pri : ℕ) where
-  pub already_open : row.taken ≡ true → answering (Refused AlreadyOpen (Channel n)) ≡ creating level n room row listed pri
-  unfolding creating
-  already_open e = rw e refl
-
-  pub unlisted : row.taken ≡ false → listed ≡ false → declining n Unlisted UNLISTED ≡ creating level n room row listed pri
-  unfolding creating
-  unlisted e f = rw (e, f) refl
-
-  pub full : row.taken ≡ false → listed ≡ true → room ≡ false → declining n Full FULL ≡ creating level n room row listed pri
-  unfolding creating
-  full e f g = rw (e, f, g) refl
-
-  pub opens :
-      row.taken ≡ false → listed ≡ true → room ≡ true
-      → turn (Becomes (opened_record level n pri)) Keeps (Opened n) (Status OPENED) ≡ creating level n room row listed pri
-  unfolding creating
-  opens e f g = rw (e, f, g) refl
-
-module _ (n : ℕ) (row : Record) where
-  pub bring_shut : (offer : Offer) (len : ℕ) → row.taken ≡ false → answering (Refused NotOpen (Channel n)) ≡ bringing n row offer len
-  unfolding bringing
-  bring_shut offer len e = rw e refl
-
-  pub bring_open : (offer : Offer) (len : ℕ) → row.taken ≡ true → landing n row (took row.stage offer len) ≡ bringing n row offer len
-  unfolding bringing
-  bring_open offer len e =
-      sym (ap (λ (b : Bool). cond b (landing n row (took row.stage offer len)) (answering (Refused NotOpen (Channel n)))) e)
-
-  pub close_open : (local : Bool) → row.taken ≡ true → turn Frees Clears (Closed n) CloseBack ≡ closing n row local
-  unfolding closing
-  close_open local e = rw e refl
-
-  pub not_open : (local : Bool) → row.taken ≡ false → local ≡ true → answering (Refused NotOpen (Channel n)) ≡ closing n row local
-  unfolding closing
-  not_open local e f = rw (e, f) refl
-
-  pub ignored : (local : Bool) → row.taken ≡ false → local ≡ false → answering (Ignored n) ≡ closing n row local
-  unfolding closing
-  ignored local e f = rw (e, f) refl
+-- a block on an open channel
+bring_open :
+    (n : ℕ) (row : Record) (offer : Offer) (len : ℕ) → row.taken ≡ true
+    → landing n row (took row.stage offer len) ≡ bringing n row offer len
+unfolding bringing
+bring_open n row offer len e =
+    sym (ap (λ (b : Bool). cond b (landing n row (took row.stage offer len)) (answering (Refused NotOpen (Some n)))) e)
 
 -- ---- what data does
 
@@ -203,7 +148,7 @@ Rightly n room row Frees = row.taken ≡ true
 
 -- an answer concerns the channel with the number, or none
 abbrev pub Concerns : ℕ → Answer → Type 0
-Concerns n answer = (concern_of answer ≡ Channel n) ⊎ (concern_of answer ≡ NoChannel)
+Concerns n answer = (concern_of answer ≡ Some n) ⊎ (concern_of answer ≡ None)
 
 module _ (level n : ℕ) (room : Bool) (row : Record) (own : row.taken ≡ true → row.number ≡ n) where
   abbrev Says : Turn → Type 0

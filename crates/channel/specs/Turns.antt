@@ -1,7 +1,7 @@
 -- What the rules do, told with no bytes in hand: what becomes of the record and of the part, the answer, and what is sent.
 -- Nobody need believe this page: `turn_rules` of proofs/Turns shows that each turn tells what `act` does, on any bytes of
 -- the part and of the block.
-use Rattle.std.specs.Prelude.{ℕ, Bool, not, cond, List, [], ℤ}
+use Rattle.std.specs.Prelude.{ℕ, Bool, not, cond, List, [], ℤ, None, Some}
 use Rattle.paper.specs.Sizes.{PART}
 use Rattle.paper.specs.Statuses.{OPENED, UNLISTED, FULL}
 use Rattle.paper.specs.declared.Refusal.{Refusal}
@@ -15,7 +15,6 @@ use Rattle.channel.specs.declared.Took.{Took}
 use Rattle.channel.specs.declared.Took.TheVariants.{Bars, Spoils, Holds, Finishes}
 use Rattle.channel.specs.declared.Decline.{Decline}
 use Rattle.channel.specs.declared.Decline.TheVariants.{Unlisted, Full}
-use Rattle.channel.specs.declared.Concern.TheVariants.{NoChannel, Channel}
 use Rattle.channel.specs.declared.Answer.{Answer}
 use Rattle.channel.specs.declared.Answer.TheVariants.{Opened, Declined, Closed, Ignored, Refused}
 use Rattle.channel.specs.declared.Ask.{Ask}
@@ -47,7 +46,7 @@ declining n why status = turn Stays Keeps (Declined n why) (Status status)
 -- a Create request
 unfoldable pub creating : ℕ → ℕ → Bool → Record → Bool → ℕ → Turn
 creating level n room row listed pri =
-    cond row.taken (answering (Refused AlreadyOpen (Channel n)))
+    cond row.taken (answering (Refused AlreadyOpen (Some n)))
     (cond (not listed) (declining n Unlisted UNLISTED)
     (cond (not room) (declining n Full FULL)
     (turn (Becomes (opened_record level n pri)) Keeps (Opened n) (Status OPENED))))
@@ -71,21 +70,21 @@ landing n r tk = turn (change_by r tk) (part_by tk) (answer_to n tk) NoReply
 -- a Data First or a Data, with a block of that length
 unfoldable pub bringing : ℕ → Record → Offer → ℕ → Turn
 bringing n row offer len =
-    cond row.taken (landing n row (took row.stage offer len)) (answering (Refused NotOpen (Channel n)))
+    cond row.taken (landing n row (took row.stage offer len)) (answering (Refused NotOpen (Some n)))
 
 -- a garbled block on an open channel: the refusal concerns no channel
 unfoldable pub garbling : Record → Refusal → Turn
-garbling row why = turn (Becomes (restaged row Spoiled)) Keeps (Refused why NoChannel) NoReply
+garbling row why = turn (Becomes (restaged row Spoiled)) Keeps (Refused why None) NoReply
 
 -- a Close, or a close by the host
 unfoldable pub closing : ℕ → Record → Bool → Turn
 closing n row local =
     cond row.taken (turn Frees Clears (Closed n) CloseBack)
-    (cond local (answering (Refused NotOpen (Channel n)))
+    (cond local (answering (Refused NotOpen (Some n)))
     (answering (Ignored n)))
 
 unfoldable pub turn_of : ℕ → ℕ → Bool → Record → Ask → ℕ → Turn
-turn_of level n room row NoList len = answering (Refused BadList NoChannel)
+turn_of level n room row NoList len = answering (Refused BadList None)
 turn_of level n room row (Name listed pri) len = creating level n room row listed pri
 turn_of level n room row (Block offer) len = bringing n row offer len
 turn_of level n room row (End local) len = closing n row local

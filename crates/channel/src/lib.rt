@@ -12,7 +12,7 @@ ghost use Rattle.channel.specs.Stages.{added, took_first, took};
 ghost use Rattle.channel.specs.Channel.{class_at, counted, opened_record, rebuilt};
 ghost use Rattle.channel.specs.Turns.{answering, declining, creating, landing, bringing, garbling, closing, turn_of};
 
-use paper::{COUNT_MAX, MESSAGE_MAX, Refusal};
+use paper::{MESSAGE_MAX, Refusal};
 
 // How far a channel's message is.
 #[derive(Clone, Copy)]
@@ -41,20 +41,13 @@ pub struct Record {
     pub count: u32,
 }
 
-// Why a Create request is declined.
+// Why a Create request is declined, by its number.
 #[derive(Clone, Copy)]
 pub enum Decline {
     // Its name is not in the listener list.
-    Unlisted,
+    Unlisted = 1,
     // All sixteen records are taken.
-    Full,
-}
-
-// Which channel a refusal concerns: refusals 1 to 7 none, 8 to 13 the one with the number.
-#[derive(Clone, Copy)]
-pub enum Concern {
-    NoChannel,
-    Channel(u32),
+    Full = 2,
 }
 
 // The answer to a call.
@@ -70,10 +63,11 @@ pub enum Answer {
     Message { number: u32, len: usize },
     Closed { number: u32 },
     Ignored { number: u32 },
-    Refused { why: Refusal, concern: Concern },
+    Refused { why: Refusal, concern: Option<u32> },
 }
 
-// What a data PDU offers beside its block: a Length, or more of the message.
+// What a data PDU offers beside its block: a Length, or more of the message. The names say which PDU brings the block, as an
+// option's would not.
 #[derive(Clone, Copy)]
 pub enum Offer {
     First(u32),
@@ -94,32 +88,30 @@ pub enum Took {
 }
 
 // A block of n bytes, added to a message of which `held` bytes of `wanted` are there.
+#[tactic(auto, unfolding(crate::specs::Stages::added))]
 fn add(wanted: u16, held: u16, n: usize) -> Took
     ensures { result ≡ added wanted held n }
 {
     let whole = wanted as usize;
-    let at = held as usize;
-    if whole < n {
+    let then = (held as usize).saturating_add(n);
+    if whole < then {
         return Took::Spoils(Refusal::PastLength);
     }
-    if whole - n < at {
-        return Took::Spoils(Refusal::PastLength);
-    }
-    if whole - n == at {
+    if then == whole {
         return Took::Finishes {
             at: held,
             len: whole,
         };
     }
-    let held_then = (at + n) as u16;
     Took::Holds {
         wanted,
         at: held,
-        held: held_then,
+        held: then as u16,
     }
 }
 
 // A Data First on an idle channel: a message of `length` bytes begins with a block of n.
+#[tactic(auto, unfolding(crate::specs::Stages::took_first, paper::specs::Sizes::MESSAGE_MAX))]
 fn begin(length: u32, n: usize) -> Took
     ensures { result ≡ took_first length n }
 {
@@ -130,6 +122,7 @@ fn begin(length: u32, n: usize) -> Took
 }
 
 // What a block of n bytes does to a channel in the stage.
+#[tactic(auto, unfolding(crate::specs::Stages::took))]
 pub fn take(stage: Stage, offer: Offer, n: usize) -> Took
     ensures { result ≡ took stage offer n }
 {
@@ -180,7 +173,7 @@ pub enum Part {
 // The version that we say. The level in use is never above it.
 pub const OUR_VERSION: u16 = 2;
 
-// What is sent.
+// What is sent. Nothing is a case of it: with an option around them each case would be matched twice.
 #[derive(Clone, Copy)]
 pub enum Reply {
     NoReply,
@@ -215,9 +208,9 @@ pub fn answers(answer: Answer) -> Turn
 
 // A refusal that concerns the channel with the number, and nothing else.
 fn refuses(number: u32, why: Refusal) -> Turn
-    ensures { result ≡ answering (Answer.Refused why (Concern.Channel number)) }
+    ensures { result ≡ answering (Answer.Refused why (Some number)) }
 {
-    let concern = Concern::Channel(number);
+    let concern = Some(number);
     answers(Answer::Refused { why, concern })
 }
 
@@ -226,14 +219,13 @@ fn declines(number: u32, why: Decline, status: i32) -> Turn
     ensures { result ≡ declining number why status }
 {
     Turn {
-        change: Change::Stays,
-        part: Part::Keeps,
-        answer: Answer::Declined { number, why },
         reply: Reply::Status(status),
+        ..answers(Answer::Declined { number, why })
     }
 }
 
 // Class is Pri at level 2, and 0 at level 1.
+#[tactic(auto, unfolding(crate::specs::Channel::class_at))]
 pub fn class_at(level: u8, pri: u8) -> u8
     ensures { result ≡ class_at level pri }
 {
@@ -244,7 +236,8 @@ pub fn class_at(level: u8, pri: u8) -> u8
 }
 
 // The record of a channel just opened.
-fn opened(level: u8, number: u32, pri: u8) -> Record
+#[tactic(auto, unfolding(crate::specs::Channel::opened_record))]
+pub fn opened(level: u8, number: u32, pri: u8) -> Record
     ensures { result ≡ opened_record level number pri }
 {
     let class = class_at(level, pri) as u32;
@@ -259,6 +252,7 @@ fn opened(level: u8, number: u32, pri: u8) -> Record
 }
 
 // A Create request.
+#[tactic(auto, unfolding(crate::specs::Turns::creating))]
 fn create(level: u8, number: u32, room: bool, row: Record, listed: bool, pri: u8) -> Turn
     ensures { result ≡ creating level number room row listed pri }
 {
@@ -273,33 +267,20 @@ fn create(level: u8, number: u32, room: bool, row: Record, listed: bool, pri: u8
     }
     Turn {
         change: Change::Becomes(opened(level, number, pri)),
-        part: Part::Keeps,
-        answer: Answer::Opened { number },
         reply: Reply::Status(paper::OPENED),
+        ..answers(Answer::Opened { number })
     }
-}
-
-// How many bytes of a message are still to come.
-fn left(wanted: u16, held: u16) -> usize
-    ensures { result ≡ wanted - held }
-{
-    if held < wanted {
-        return (wanted - held) as usize;
-    }
-    0
 }
 
 // A channel's count, with one message more if one is handed up. It stays at the ceiling once there.
+#[tactic(auto, unfolding(paper::specs::Sizes::COUNT_MAX))]
 fn counted(count: u32, handed: bool) -> u32
     ensures { result ≡ counted count handed }
 {
-    if !handed {
-        return count;
+    if handed {
+        return count.saturating_add(1);
     }
-    if count == COUNT_MAX {
-        return COUNT_MAX;
-    }
-    count + 1
+    count
 }
 
 // The record in another stage, with a message counted if one is handed up. Every other change of a record is an opening
@@ -308,16 +289,14 @@ fn rebuilt(row: Record, stage: Stage, handed: bool) -> Record
     ensures { result ≡ rebuilt row stage handed }
 {
     Record {
-        number: row.number,
         stage,
-        awaited: row.awaited,
-        taken: row.taken,
-        class: row.class,
         count: counted(row.count, handed),
+        ..row
     }
 }
 
 // What data does to an open channel, told of its record and its part.
+#[tactic(auto, unfolding(crate::specs::Turns::landing, crate::specs::Turns::change_by, crate::specs::Turns::part_by, crate::specs::Channel::stage_after, crate::specs::Channel::answer_to))]
 fn lands(number: u32, row: Record, took: Took) -> Turn
     ensures { result ≡ landing number row took }
 {
@@ -325,32 +304,26 @@ fn lands(number: u32, row: Record, took: Took) -> Turn
         Took::Bars(why) => refuses(number, why),
         Took::Spoils(why) => Turn {
             change: Change::Becomes(rebuilt(row, Stage::Spoiled, false)),
-            part: Part::Keeps,
-            answer: Answer::Refused {
-                why,
-                concern: Concern::Channel(number),
-            },
-            reply: Reply::NoReply,
+            ..refuses(number, why)
         },
-        Took::Holds { wanted, at, held } => Turn {
-            change: Change::Becomes(rebuilt(row, Stage::Joining { wanted, held }, false)),
-            part: Part::Takes { at: at as usize },
-            answer: Answer::Held {
-                number,
-                left: left(wanted, held),
-            },
-            reply: Reply::NoReply,
-        },
+        Took::Holds { wanted, at, held } => {
+            let left = wanted.saturating_sub(held) as usize;
+            Turn {
+                change: Change::Becomes(rebuilt(row, Stage::Joining { wanted, held }, false)),
+                part: Part::Takes { at: at as usize },
+                ..answers(Answer::Held { number, left })
+            }
+        }
         Took::Finishes { at, len } => Turn {
             change: Change::Becomes(rebuilt(row, Stage::Idle, true)),
             part: Part::Takes { at: at as usize },
-            answer: Answer::Message { number, len },
-            reply: Reply::NoReply,
+            ..answers(Answer::Message { number, len })
         },
     }
 }
 
 // A Data First or a Data, with a block of n bytes.
+#[tactic(auto, unfolding(crate::specs::Turns::bringing))]
 fn bring(number: u32, row: Record, offer: Offer, n: usize) -> Turn
     ensures { result ≡ bringing number row offer n }
 {
@@ -362,21 +335,19 @@ fn bring(number: u32, row: Record, offer: Offer, n: usize) -> Turn
 }
 
 // A garbled block on an open channel: it is spoiled, and the refusal, one of reading, concerns no channel.
+#[tactic(auto, unfolding(crate::specs::Turns::garbling, crate::specs::Channel::restaged))]
 pub fn garbles(row: Record, why: Refusal) -> Turn
     ensures { result ≡ garbling row why }
 {
+    let concern = None;
     Turn {
         change: Change::Becomes(rebuilt(row, Stage::Spoiled, false)),
-        part: Part::Keeps,
-        answer: Answer::Refused {
-            why,
-            concern: Concern::NoChannel,
-        },
-        reply: Reply::NoReply,
+        ..answers(Answer::Refused { why, concern })
     }
 }
 
 // A Close, or a close by the host.
+#[tactic(auto, unfolding(crate::specs::Turns::closing))]
 fn close(number: u32, row: Record, local: bool) -> Turn
     ensures { result ≡ closing number row local }
 {
@@ -396,13 +367,14 @@ fn close(number: u32, row: Record, local: bool) -> Turn
 
 // The rules of one channel, at a level, for an event with a block of n bytes. A record that isn't taken is that of a
 // channel which is shut; `room` says whether a record is free for it.
+#[tactic(auto, unfolding(crate::specs::Turns::turn_of))]
 pub fn act(level: u8, number: u32, room: bool, row: Record, ask: Ask, n: usize) -> Turn
     ensures { result ≡ turn_of level number room row ask n }
 {
     match ask {
         Ask::NoList => answers(Answer::Refused {
             why: Refusal::BadList,
-            concern: Concern::NoChannel,
+            concern: None,
         }),
         Ask::Name { listed, pri } => create(level, number, room, row, listed, pri),
         Ask::Block(offer) => bring(number, row, offer, n),
@@ -411,36 +383,33 @@ pub fn act(level: u8, number: u32, room: bool, row: Record, ask: Ask, n: usize) 
 }
 
 // The channel that the answer concerns.
-pub fn concerns(answer: Answer) -> Concern
+#[tactic(auto, unfolding(crate::specs::Answers::concern_of))]
+pub fn concerns(answer: Answer) -> Option<u32>
     ensures { result ≡ concern_of answer }
 {
     match answer {
-        Answer::Ready { level: _ } => Concern::NoChannel,
-        Answer::Opened { number } => Concern::Channel(number),
-        Answer::Declined { number, why: _ } => Concern::Channel(number),
-        Answer::Held { number, left: _ } => Concern::Channel(number),
-        Answer::Message { number, len: _ } => Concern::Channel(number),
-        Answer::Closed { number } => Concern::Channel(number),
-        Answer::Ignored { number } => Concern::Channel(number),
-        Answer::Refused { why: _, concern } => concern,
+        Answer::Ready { .. } => None,
+        Answer::Opened { number }
+        | Answer::Declined { number, .. }
+        | Answer::Held { number, .. }
+        | Answer::Message { number, .. }
+        | Answer::Closed { number }
+        | Answer::Ignored { number } => Some(number),
+        Answer::Refused { concern, .. } => concern,
     }
 }
 
 // The answer's number: level, bytes still to come, message length, refusal number, 1 unlisted or 2 full, else 0.
+#[tactic(auto, unfolding(crate::specs::Answers::number_of, crate::specs::Answers::decline_number))]
 pub fn value(answer: Answer) -> u64
     ensures { result ≡ number_of answer }
 {
     match answer {
         Answer::Ready { level } => level as u64,
-        Answer::Opened { number: _ } => 0,
-        Answer::Declined { number: _, why } => match why {
-            Decline::Unlisted => 1,
-            Decline::Full => 2,
-        },
-        Answer::Held { number: _, left } => left as u64,
-        Answer::Message { number: _, len } => len as u64,
-        Answer::Closed { number: _ } => 0,
-        Answer::Ignored { number: _ } => 0,
-        Answer::Refused { why, concern: _ } => paper::refusal_number(why) as u64,
+        Answer::Opened { .. } | Answer::Closed { .. } | Answer::Ignored { .. } => 0,
+        Answer::Declined { why, .. } => why as u64,
+        Answer::Held { left, .. } => left as u64,
+        Answer::Message { len, .. } => len as u64,
+        Answer::Refused { why, .. } => paper::refusal_number(why) as u64,
     }
 }

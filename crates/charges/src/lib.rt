@@ -18,8 +18,8 @@ use reading::Charges;
 // A share is in ten-thousandths.
 const WHOLE: u64 = 10000;
 
-// The four shares, in ten-thousandths.
-#[derive(Drop)]
+// The four shares, in ten-thousandths. A field for a class, as the charges have them that the C interface hands in one by one.
+#[derive(Clone, Copy)]
 pub struct Shares {
     pub class0: u16,
     pub class1: u16,
@@ -28,24 +28,20 @@ pub struct Shares {
 }
 
 // A charge in a product of charges: one of 0 is left out of it.
+#[tactic(auto, using(std::proofs::lemmas::Bool::Decides::nat_tests), unfolding(crate::specs::Weights::or_one))]
 fn or_one(charge: u16) -> u64
     ensures { (result ≡ or_one charge) × (result ≤ CHARGE_MAX) }
 {
-    if charge == 0 {
-        return 1;
-    }
-    charge as u64
+    if charge == 0 { 1 } else { u64::from(charge) }
 }
 
 // What a class weighs beside the others: the product of their charges, and nothing where its own is 0.
+#[tactic(auto, using(std::proofs::lemmas::Bool::Decides::nat_tests, crate::proofs::Products::two_below, crate::proofs::Products::three_below), unfolding(crate::specs::Weights::weight))]
 fn weigh(charge: u16, a: u64, b: u64, c: u64) -> u64
     requires { (a ≤ CHARGE_MAX) × (b ≤ CHARGE_MAX) × (c ≤ CHARGE_MAX) }
     ensures { (result ≡ weight charge a b c) × (result ≤ WEIGHT_MAX) }
 {
-    if charge == 0 {
-        return 0;
-    }
-    a * b * c
+    if charge == 0 { 0 } else { a * b * c }
 }
 
 // A fraction rounded down.
@@ -62,12 +58,14 @@ fn in_ten_thousand(weight: u64, all: u64) -> u16
     ensures { result ≡ part weight all }
 {
     if all == 0 {
-        return 0;
+        0
+    } else {
+        rounded(WHOLE * weight, all) as u16
     }
-    rounded(WHOLE * weight, all) as u16
 }
 
 // The four shares of four charges.
+#[tactic(auto, using(crate::proofs::Formula::product_form), unfolding(crate::specs::Weights::weighed))]
 pub fn shares_of(charges: Charges) -> Shares
     ensures { result ≡ shares_of charges }
 {

@@ -1,5 +1,6 @@
 -- What a PDU asks is its event, and the block that a step takes is the bytes at its place.
 -- Assumes nothing.
+use Rattle.std.specs.Prelude.{Option, None, Some}
 use mathlib.Core.Path.{◌≡◌, refl, sym, ap, ◌∙◌}
 use mathlib.Core.Bool.{Bool, true, false, cond}
 use mathlib.Core.List.{List}
@@ -14,8 +15,6 @@ use Rattle.reading.specs.declared.Pdu.TheVariants.{CreateRequest, CreateResponse
 use Rattle.reading.specs.declared.Pdu.TheVariants.{CapsRequest, CapsResponse, Refused}
 use Rattle.reading.specs.Said.{bytes_at}
 use Rattle.reading.specs.Garbled.{carries}
-use Rattle.reading.specs.declared.Carried.{Carried}
-use Rattle.reading.specs.declared.Carried.TheVariants.{NoNumber, Number}
 use Rattle.listeners.specs.Listeners.{good_list, is_listed}
 use Rattle.channel.specs.declared.Ask.TheVariants.{NoList, Name}
 use Rattle.channel.specs.Channel.{BadCreate, Create, LocalClose}
@@ -31,10 +30,10 @@ create_asks list name block pri = go (good_list list)
     go true = refl
     go false = refl
 
-unread_asked : (pdu : List ℕ) (why : Refusal) (carried : Carried) → event_asked (unread_ask why carried) pdu ≡ unread why carried
+unread_asked : (pdu : List ℕ) (why : Refusal) (carried : Option ℕ) → event_asked (unread_ask why carried) pdu ≡ unread why carried
 unfolding event_asked unread_ask told unread
-unread_asked pdu why NoNumber = refl
-unread_asked pdu why (Number n) = refl
+unread_asked pdu why None = refl
+unread_asked pdu why (Some n) = refl
 
 pub event_asked_law : (list pdu : List ℕ) (read : Pdu) → event_asked (heard_in list pdu read) pdu ≡ event_of list pdu read
 unfolding event_asked heard_in told event_of act_of

@@ -1,5 +1,6 @@
 -- What was decided of what was found, put back, is the step.
 -- Assumes nothing.
+use Rattle.std.specs.Prelude.{None, Some}
 use mathlib.Core.Path.{◌≡◌, refl, sym, ap, ◌∙◌}
 use mathlib.Core.Bool.{Bool, true, false, ◌&&◌}
 use mathlib.Core.List.{List}
@@ -13,7 +14,6 @@ use Rattle.paper.specs.declared.Refusal.TheVariants.{WrongTime}
 use Rattle.lists.specs.Bytes.{laid}
 use Rattle.lists.proofs.Cases.{and_true, and_false, lt_or_le}
 use Rattle.channel.specs.declared.Record.{Record}
-use Rattle.channel.specs.declared.Concern.TheVariants.{NoChannel, Channel}
 use Rattle.channel.specs.declared.Ask.{Ask}
 use Rattle.channel.specs.declared.Ask.TheVariants.{NoList, Name, Block, End}
 use Rattle.channel.specs.declared.Turn.{Turn}
@@ -96,12 +96,12 @@ module _ (n : ℕ) (t : Table) (store : List ℕ) (long : length t.records ≡ P
   abbrev ComesTo : Stepped → List ℕ → Decided → Type 0
   ComesTo s block d = (s ≡ left block d) × Placed d
 
-  no_place : (d : Decided) → concern_of d.turn.answer ≡ NoChannel → Placed d
+  no_place : (d : Decided) → concern_of d.turn.answer ≡ None → Placed d
   unfolding place_if place_for
   no_place d e = rw e refl
 
   own_place :
-      (d : Decided) → concern_of d.turn.answer ≡ Channel n
+      (d : Decided) → concern_of d.turn.answer ≡ Some n
       → number_place n (put_back t d.ready d.level home found d.turn.change) ≡ place_after home found.taken d.turn.change
       → Placed d
   unfolding place_if place_for

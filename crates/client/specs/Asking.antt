@@ -1,12 +1,10 @@
 -- An event as a call of `step` asks it: with no bytes in it but the place of its block in the PDU. `event_asked` says which
 -- event that is; the rest nobody need believe: proofs/Asking shows that what a PDU asks is its event.
-use Rattle.std.specs.Prelude.{ℕ, true, false, cond, List}
+use Rattle.std.specs.Prelude.{ℕ, true, false, cond, List, Option, None, Some}
 use Rattle.paper.specs.declared.Refusal.{Refusal}
 use Rattle.paper.specs.declared.Refusal.TheVariants.{WrongTime}
 use Rattle.reading.specs.Said.{bytes_at}
 use Rattle.reading.specs.Garbled.{carries}
-use Rattle.reading.specs.declared.Carried.{Carried}
-use Rattle.reading.specs.declared.Carried.TheVariants.{NoNumber, Number}
 use Rattle.reading.specs.declared.Extent.{Extent}
 use Rattle.reading.specs.declared.Pdu.{Pdu}
 use Rattle.reading.specs.declared.Pdu.TheVariants.{CreateRequest, CreateResponse, DataFirst, Data, Close}
@@ -30,7 +28,7 @@ told n (Caps version) block = Capabilities version
 told n (Asks ask) block = Of n (act_of ask block)
 
 -- what is asked, with the PDU that its block lies in
-unfoldable pub event_asked : Asked → List ℕ → Event
+unfoldable pub event_asked : Asked Matter → List ℕ → Event
 event_asked asked pdu = told asked.number asked.matter (bytes_at pdu asked.block)
 
 -- ---- what a PDU asks, and what a close by the host asks
@@ -39,18 +37,18 @@ event_asked asked pdu = told asked.number asked.matter (bytes_at pdu asked.block
 abbrev pub nowhere : Extent
 nowhere = record { at = 0; len = 0 }
 
-abbrev pub asking : ℕ → Matter → Extent → Asked
+abbrev pub asking : ℕ → Matter → Extent → Asked Matter
 asking n matter block = record { number = n; matter = matter; block = block }
 
 unfoldable pub create_ask : List ℕ → List ℕ → ℕ → Ask
 create_ask list name pri = cond (good_list list) (Name (is_listed list name) pri) NoList
 
 -- what a PDU asks that reading refuses, by the number that it carries
-unfoldable pub unread_ask : Refusal → Carried → Asked
-unread_ask why NoNumber = asking 0 (Unread why false) nowhere
-unread_ask why (Number n) = asking n (Unread why true) nowhere
+unfoldable pub unread_ask : Refusal → Option ℕ → Asked Matter
+unread_ask why None = asking 0 (Unread why false) nowhere
+unread_ask why (Some n) = asking n (Unread why true) nowhere
 
-unfoldable pub heard_in : List ℕ → List ℕ → Pdu → Asked
+unfoldable pub heard_in : List ℕ → List ℕ → Pdu → Asked Matter
 heard_in list pdu (CreateRequest n class name) = asking n (Asks (create_ask list (bytes_at pdu name) class)) nowhere
 heard_in list pdu (CreateResponse n status) = asking 0 (Unread WrongTime false) nowhere
 heard_in list pdu (DataFirst n len block) = asking n (Asks (Block (First len))) block
@@ -60,5 +58,5 @@ heard_in list pdu (CapsRequest version charges) = asking 0 (Caps version) nowher
 heard_in list pdu (CapsResponse version) = asking 0 (Unread WrongTime false) nowhere
 heard_in list pdu (Refused why) = unread_ask why (carries pdu)
 
-unfoldable pub closing_of : ℕ → Asked
+unfoldable pub closing_of : ℕ → Asked Matter
 closing_of n = asking n (Asks (End true)) nowhere

@@ -1,11 +1,9 @@
 -- What a received PDU is an event of.
-use Rattle.std.specs.Prelude.{ℕ, Bool, true, false, cond, List, eqb}
+use Rattle.std.specs.Prelude.{ℕ, Bool, true, false, cond, List, eqb, Option, None, Some}
 use Rattle.paper.specs.declared.Refusal.{Refusal}
 use Rattle.paper.specs.declared.Refusal.TheVariants.{WrongTime}
 use Rattle.reading.specs.Said.{bytes_at}
 use Rattle.reading.specs.Garbled.{carries}
-use Rattle.reading.specs.declared.Carried.{Carried}
-use Rattle.reading.specs.declared.Carried.TheVariants.{NoNumber, Number}
 use Rattle.reading.specs.declared.Pdu.{Pdu}
 use Rattle.reading.specs.declared.Pdu.TheVariants.{CreateRequest, CreateResponse, DataFirst, Data, Close}
 use Rattle.reading.specs.declared.Pdu.TheVariants.{CapsRequest, CapsResponse, Refused}
@@ -33,9 +31,9 @@ close_act false = Closing
 
 -- a PDU that reading refuses, by the number that it carries: "any PDU of these commands with its number whole is an event of
 -- that channel, open or not"
-unfoldable pub unread : Refusal → Carried → Event
-unread why NoNumber = Unreadable why
-unread why (Number n) = Of n (Garbled why)
+unfoldable pub unread : Refusal → Option ℕ → Event
+unread why None = Unreadable why
+unread why (Some n) = Of n (Garbled why)
 
 -- a PDU's event, from what reading answers. Responses are never read in a PDU from the server.
 unfoldable pub event_of : List ℕ → List ℕ → Pdu → Event

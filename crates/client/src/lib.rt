@@ -11,31 +11,23 @@ ghost use Rattle.paper.specs.Sizes.{PARTS, STORE};
 ghost use Rattle.lists.specs.Bytes.{laid};
 ghost use Rattle.reading.specs.Reading.{read_pdu};
 ghost use Rattle.reading.specs.Garbled.{carries};
-ghost use Rattle.channel.specs.Answers.{concern_of};
 ghost use Rattle.channel.specs.Turns.{reply_told};
 ghost use Rattle.table.specs.Sound.{sound_table};
 ghost use Rattle.connection.specs.States.{state_of};
 ghost use Rattle.client.specs.Asking.{nowhere, create_ask, unread_ask, heard_in, closing_of, told, event_asked};
 ghost use Rattle.client.specs.Client.{Gives, stepped, place_if, bad_call, called, received, locally_closed, started, store_started};
 
-use channel::{Answer, Ask, Concern, Offer, Reply};
+use channel::{Answer, Ask, Offer, Reply};
 use deciding::Matter;
 use paper::{PARTS, Refusal};
-use reading::{Carried, Extent, Pdu};
+use reading::{Extent, Pdu};
 use table::{Table, Totals};
-
-// Whether Start did its work.
-#[derive(Clone, Copy)]
-pub enum Begun {
-    Done,
-    Refused(Refusal),
-}
 
 // What Start gives: the empty table, refused or not.
 #[derive(Clone, Copy)]
 pub struct Started {
     pub table: Table,
-    pub begun: Begun,
+    pub begun: Result<(), Refusal>,
 }
 
 // What a call gives: the next table, the answer, how many bytes of the reply to send, and the place of the record of the
@@ -49,16 +41,17 @@ pub struct Received {
     pub place: usize,
 }
 
-// What a call asks: of the channel with the number, if of any, what, and where in the PDU the block lies.
+// What a call asks: of the channel with the number, if of any, what, and where in the PDU the block lies. What can be asked is
+// each end's own.
 #[derive(Clone, Copy)]
-pub struct Asked {
+pub struct Asked<M> {
     pub number: u32,
-    pub matter: Matter,
+    pub matter: M,
     pub block: Extent,
 }
 
 // What is asked with no block.
-fn bare(number: u32, matter: Matter) -> Asked
+pub fn bare<M>(number: u32, matter: M) -> Asked<M>
     ensures { result ≡ record { number = number; matter = matter; block = nowhere } }
 {
     let block = Extent { at: 0, len: 0 };
@@ -83,18 +76,18 @@ fn create_ask(list: &[u8], name: &[u8], pri: u8) -> Ask
 }
 
 // What a PDU asks that reading refuses, by the number that it carries.
-fn unread(pdu: &[u8], why: Refusal) -> Asked
+fn unread(pdu: &[u8], why: Refusal) -> Asked<Matter>
     ensures { result ≡ unread_ask why (carries pdu.now) }
 {
     match reading::carries(pdu) {
-        Carried::NoNumber => bare(0, Matter::Unread { why, whole: false }),
-        Carried::Number(number) => bare(number, Matter::Unread { why, whole: true }),
+        None => bare(0, Matter::Unread { why, whole: false }),
+        Some(number) => bare(number, Matter::Unread { why, whole: true }),
     }
 }
 
 // What a PDU from the server asks, with the names that the host listens for. Responses are never read in a PDU from the
 // server.
-pub fn heard(list: &[u8], pdu: &[u8]) -> Asked
+pub fn heard(list: &[u8], pdu: &[u8]) -> Asked<Matter>
     ensures { result ≡ heard_in list.now pdu.now (read_pdu true pdu.now) }
 {
     match reading::read(pdu, true) {
@@ -107,11 +100,7 @@ pub fn heard(list: &[u8], pdu: &[u8]) -> Asked
             number,
             class,
             name,
-        } => {
-            let at = name.at;
-            let end = at + name.len;
-            bare(number, Matter::Asks(create_ask(list, &pdu[at..end], class)))
-        }
+        } => bare(number, Matter::Asks(create_ask(list, name.of(pdu), class))),
         Pdu::DataFirst {
             number,
             length,
@@ -148,7 +137,7 @@ pub fn heard(list: &[u8], pdu: &[u8]) -> Asked
 }
 
 // What a close by the host asks.
-pub fn closing(number: u32) -> Asked
+pub fn closing(number: u32) -> Asked<Matter>
     ensures { result ≡ closing_of number }
 {
     bare(number, Matter::Asks(Ask::End { local: true }))
@@ -167,13 +156,13 @@ pub fn lay(reply: &mut [u8], number: u32, what: Reply) -> usize
     }
 }
 
-// The place, if the answer concerns a channel.
-fn place_for(answer: Answer, place: usize) -> usize
-    ensures { result ≡ place_if (concern_of answer) place }
+// The place, if an answer concerns a channel.
+pub fn place_if(concern: Option<u32>, place: usize) -> usize
+    ensures { result ≡ place_if concern place }
 {
-    match channel::concerns(answer) {
-        Concern::NoChannel => PARTS,
-        Concern::Channel(_) => place,
+    match concern {
+        None => PARTS,
+        Some(_) => place,
     }
 }
 
@@ -215,19 +204,22 @@ fn taken(
         table: next,
         answer,
         sent,
-        place: place_for(answer, connection::place_after(k, row.taken, change)),
+        place: place_if(
+            channel::concerns(answer),
+            connection::place_after(k, row.taken, change),
+        ),
     }
 }
 
 // Refusal 1 gives back the very table that came in.
 fn refused(table: Table) -> Received
-    ensures { result ≡ record { table = table; answer = Answer.Refused Refusal.BadCall Concern.NoChannel; sent = 0; place = PARTS } }
+    ensures { result ≡ record { table = table; answer = Answer.Refused Refusal.BadCall None; sent = 0; place = PARTS } }
 {
     Received {
         table,
         answer: Answer::Refused {
             why: Refusal::BadCall,
-            concern: Concern::NoChannel,
+            concern: None,
         },
         sent: 0,
         place: PARTS,
@@ -255,19 +247,25 @@ pub fn start(store: &mut [u8]) -> Started
     if store.len() != paper::STORE {
         return Started {
             table: table::empty(),
-            begun: Begun::Refused(Refusal::BadCall),
+            begun: Err(Refusal::BadCall),
         };
     }
     lists::clear(store);
     Started {
         table: table::empty(),
-        begun: Begun::Done,
+        begun: Ok(()),
     }
 }
 
 // A call: refusal 1, and behind it what is asked. The block is the bytes of the PDU at its place, as far as there are any.
 // `receive` and `local_close` are faces of this one. A program is quickest that calls it, from one place.
-pub fn step(table: Table, store: &mut [u8], asked: Asked, pdu: &[u8], reply: &mut [u8]) -> Received
+pub fn step(
+    table: Table,
+    store: &mut [u8],
+    asked: Asked<Matter>,
+    pdu: &[u8],
+    reply: &mut [u8],
+) -> Received
     ensures value { result ≡ (called table store.old
         (event_asked asked pdu.now) reply.old).result }
     ensures store_after { store.new ≡ (called table store.old
@@ -278,11 +276,14 @@ pub fn step(table: Table, store: &mut [u8], asked: Asked, pdu: &[u8], reply: &mu
     if bad_call(table, store.len(), reply.len()) {
         return refused(table);
     }
-    let matter = asked.matter;
-    let block = asked.block;
-    let at = lists::lesser(block.at, pdu.len());
-    let end = at + lists::lesser(block.len, pdu.len() - at);
-    taken(table, store, asked.number, matter, &pdu[at..end], reply)
+    taken(
+        table,
+        store,
+        asked.number,
+        asked.matter,
+        asked.block.of(pdu),
+        reply,
+    )
 }
 
 // A PDU from the server, with the names that the host listens for. The reply goes to the reply buffer.

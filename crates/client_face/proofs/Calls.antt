@@ -1,5 +1,7 @@
 -- A call on bytes: refusal 1 in front of it leaves every byte, and behind it the step is given.
 -- Assumes nothing.
+use Rattle.std.specs.Prelude.{Result, Err, Ok, is_ok}
+use Rattle.paper.specs.declared.Refusal.{Refusal}
 use mathlib.Core.Path.{◌≡◌, refl, sym, ap, ◌∙◌}
 use mathlib.Core.Bool.{Bool, true, false, not, cond, ◌&&◌, ◌||◌}
 use mathlib.Core.List.{List, []}
@@ -27,9 +29,7 @@ use Rattle.table.specs.Sound.{sound_table}
 use Rattle.connection.specs.States.{state_of, place_after}
 use Rattle.reading.specs.Reading.{read_pdu}
 use Rattle.client.specs.Events.{Event}
-use Rattle.client.specs.Asking.{event_asked}
-use Rattle.client.specs.declared.Begun.{Begun}
-use Rattle.client.specs.declared.Begun.TheVariants.{Done, Refused as NotBegun}
+use Rattle.client.specs.Asking.{event_asked, heard_in, closing_of}
 use Rattle.client.specs.declared.Received.{Received}
 use Rattle.client.specs.Client as client
 use Rattle.client.specs.Client.{Stepped, Whole, place_if, refused, stepped, bad_call, place_for, whole_of, called, received, locally_closed, started, store_started}
@@ -39,7 +39,7 @@ use Rattle.saved.specs.Saved.{STATE, CLIENT, saved, table_in, asked_in, unasked,
 use Rattle.saved.proofs.Back.{told_saved}
 use Rattle.packing.specs.Packing.{answer_place, packed_answer, packed_for}
 use Rattle.packing.proofs.Own.{own, decided_own, decided_place}
-use Rattle.client_face.specs.Face.{Faced, no_state, faced, dvc_received, dvc_closed, asked_by, bad_face, Gives, faces, begins}
+use Rattle.client_face.specs.Face.{Faced, no_state, faced, dvc_received, dvc_closed, bad_face, Gives, faces, begins}
 
 -- ---- bytes that are a state of the client
 
@@ -62,7 +62,7 @@ good_state l e = both (is_state CLIENT false l) (sound_table (table_in l)) e
 -- ---- refusal 1
 
 -- of a state, the library's
-pub bad_call_law : (l : List ℕ) (store reply : ℕ) → is_state CLIENT false l ≡ true → bad_face l store reply ≡ bad_call (table_in l) store reply
+pub bad_call_law : (l : List ℕ) (store reply : ℕ) → is_state CLIENT false l ≡ true → bad_face CLIENT false l store reply ≡ bad_call (table_in l) store reply
 unfolding bad_face bad_call is_good
 bad_call_law l store reply e = rw e
 
@@ -82,7 +82,7 @@ unfolding faced whole_of place_for concern_of laid no_state
 state_refused l store reply w h e r = rw (r, e, state_own l h e)
 
 pub face_refuses :
-    (l store reply : List ℕ) (event : Event) → Bytes l → bad_face l (length store) (length reply) ≡ true
+    (l store reply : List ℕ) (event : Event) → Bytes l → bad_face CLIENT false l (length store) (length reply) ≡ true
     → faces l store event reply ≡ record { answer = no_state; state = l; store = store; reply = reply }
 unfolding faces
 face_refuses l store reply event h bad = go (is_state CLIENT false l) refl
@@ -99,7 +99,7 @@ face_refuses l store reply event h bad = go (is_state CLIENT false l) refl
 
 -- what isn't refused so
 pub face_proper :
-    (l : List ℕ) (store reply : ℕ) → bad_face l store reply ≡ false → (store ≡ STORE) × (is_good CLIENT false l ≡ true)
+    (l : List ℕ) (store reply : ℕ) → bad_face CLIENT false l store reply ≡ false → (store ≡ STORE) × (is_good CLIENT false l ≡ true)
 unfolding bad_face
 face_proper l store reply e =
     let first = neither (not (eqb store STORE)) (ltb reply REPLY_MIN || not (is_good CLIENT false l)) e in
@@ -123,7 +123,7 @@ unfolding faced whole_of faced_of
 whole_faced l store reply w s e r = rw (r, e)
 
 pub face_passes :
-    (l store reply : List ℕ) (event : Event) → bad_face l (length store) (length reply) ≡ false
+    (l store reply : List ℕ) (event : Event) → bad_face CLIENT false l (length store) (length reply) ≡ false
     → faces l store event reply ≡ faced_of reply (stepped (state_of (table_in l) store) event)
 unfolding faces
 face_passes l store reply event bad =
@@ -202,13 +202,13 @@ gives_packed s r l reply storeAfter replyAfter g p e f =
 -- ---- the two calls
 
 pub receives_face :
-    (l store list pdu reply : List ℕ) → dvc_received l store list pdu reply ≡ faces l store (event_asked (asked_by true list pdu 0) pdu) reply
-unfolding dvc_received faces received asked_by
+    (l store list pdu reply : List ℕ) → dvc_received l store list pdu reply ≡ faces l store (event_asked (heard_in list pdu (read_pdu true pdu)) pdu) reply
+unfolding dvc_received faces received
 receives_face l store list pdu reply = rw (event_asked_law list pdu (read_pdu true pdu))
 
 pub closes_face :
-    (l store : List ℕ) (n : ℕ) (reply : List ℕ) → dvc_closed l store n reply ≡ faces l store (event_asked (asked_by false [] [] n) []) reply
-unfolding dvc_closed faces locally_closed asked_by
+    (l store : List ℕ) (n : ℕ) (reply : List ℕ) → dvc_closed l store n reply ≡ faces l store (event_asked (closing_of n) []) reply
+unfolding dvc_closed faces locally_closed
 closes_face l store n reply = rw event_closing
 
 -- a call is what its name says
@@ -220,16 +220,11 @@ face_is f g r stateAfter storeAfter replyAfter e h = rw e h
 
 -- ---- Start
 
--- whether the library's Start did its work
-abbrev pub is_done : Begun → Bool
-is_done Done = true
-is_done (NotBegun why) = false
-
-begun_is : (store : List ℕ) → is_done (started store).begun ≡ eqb (length store) STORE
+begun_is : (store : List ℕ) → is_ok (started store).begun ≡ eqb (length store) STORE
 unfolding started
 begun_is store = go (eqb (length store) STORE)
   where
-    go : (b : Bool) → is_done (cond b Done (NotBegun BadCall)) ≡ b
+    go : (b : Bool) → is_ok {T = Unit {0}} {E = Refusal} (cond b (Ok tt) (Err BadCall)) ≡ b
     go true = refl
     go false = refl
 
@@ -238,25 +233,25 @@ unfolding begins
 begins_other mark t state store h = rw (ne_eqb (length state) STATE h)
 
 pub begins_refused :
-    (mark : ℕ) (t : Table) (state store : List ℕ) (b : Begun) → b ≡ (started store).begun → is_done b ≡ false
+    (mark : ℕ) (t : Table) (state store : List ℕ) (b : Result (Unit {0}) Refusal) → b ≡ (started store).begun → is_ok b ≡ false
     → begins mark t state store ≡ record { answer = 1; state = state; store = store }
 unfolding begins
 begins_refused mark t state store b e f =
-    let not_its_size : eqb (length store) STORE ≡ false = sym (begun_is store) ∙ ap is_done (sym e) ∙ f in
+    let not_its_size : eqb (length store) STORE ≡ false = sym (begun_is store) ∙ ap is_ok (sym e) ∙ f in
     rw (not_its_size, and_false (eqb (length state) STATE))
 
 pub begins_done :
-    (mark : ℕ) (t : Table) (state store : List ℕ) (b : Begun) → length state ≡ STATE → b ≡ (started store).begun → is_done b ≡ true
+    (mark : ℕ) (t : Table) (state store : List ℕ) (b : Result (Unit {0}) Refusal) → length state ≡ STATE → b ≡ (started store).begun → is_ok b ≡ true
     → begins mark t state store ≡ record { answer = 0; state = saved mark 0 t; store = store_started store }
 unfolding begins
 begins_done mark t state store b h e f =
-    let its_size : eqb (length store) STORE ≡ true = sym (begun_is store) ∙ ap is_done (sym e) ∙ f in
+    let its_size : eqb (length store) STORE ≡ true = sym (begun_is store) ∙ ap is_ok (sym e) ∙ f in
     rw (its_size, eq-eqb (length state) STATE h)
 
-pub store_left : (store : List ℕ) (b : Begun) → b ≡ (started store).begun → is_done b ≡ false → store_started store ≡ store
+pub store_left : (store : List ℕ) (b : Result (Unit {0}) Refusal) → b ≡ (started store).begun → is_ok b ≡ false → store_started store ≡ store
 unfolding store_started
 store_left store b e f =
-    let not_its_size : eqb (length store) STORE ≡ false = sym (begun_is store) ∙ ap is_done (sym e) ∙ f in
+    let not_its_size : eqb (length store) STORE ≡ false = sym (begun_is store) ∙ ap is_ok (sym e) ∙ f in
     rw not_its_size
 
 pub started_empty : (store : List ℕ) → (started store).table ≡ empty_table

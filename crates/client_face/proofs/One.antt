@@ -3,9 +3,13 @@
 -- Assumes nothing.
 use mathlib.Core.Path.{◌≡◌}
 use Rattle.lists.proofs.Cases.{same}
+use Rattle.client_face.proofs.bad.Reads as bad
 use Rattle.client_face.proofs.dvc_start.Reads as start
 use Rattle.client_face.proofs.dvc_receive.Reads as receive
 use Rattle.client_face.proofs.dvc_local_close.Reads as local-close
+
+pub bad_one : (κs : _) (a : _) (r r' : _) (s s' : _) → bad.Post κs a r s → bad.Post κs a r' s' → r ≡ r'
+bad_one κs a r r' s s' p q = same p q
 
 pub dvc_start_one : (κs : _) (a : _) (r r' : _) (s s' : _) → start.Post κs a r s → start.Post κs a r' s'
     → (r ≡ r') × (s.0.now ≡ s'.0.now) × (s.1.0.now ≡ s'.1.0.now)

@@ -1,14 +1,12 @@
 -- The client end as a host in C calls it: the table in bytes that the host lends, the answer in one number.
-use Rattle.std.specs.Prelude.{ℕ, Bool, true, false, cond, not, ◌&&◌, ◌||◌, List, eqb, ltb, length}
+use Rattle.std.specs.Prelude.{ℕ, Bool, true, false, cond, not, ◌&&◌, ◌||◌, List, eqb, ltb, length, None}
 use Rattle.paper.specs.Sizes.{PARTS, STORE, REPLY_MIN}
 use Rattle.paper.specs.declared.Refusal.TheVariants.{BadCall}
 use Rattle.lists.specs.Bytes.{laid}
 use Rattle.reading.specs.Reading.{read_pdu}
-use Rattle.channel.specs.declared.Concern.TheVariants.{NoChannel}
 use Rattle.channel.specs.declared.Answer.TheVariants.{Refused}
 use Rattle.channel.specs.Answers.{concern_of}
 use Rattle.table.specs.declared.Table.{Table}
-use Rattle.client.specs.declared.Asked.{Asked}
 use Rattle.client.specs.Events.{Event}
 use Rattle.client.specs.Asking.{heard_in, closing_of}
 use Rattle.client.specs.Client.{Stepped, Whole, place_for, called, received, locally_closed, started, store_started}
@@ -24,7 +22,7 @@ pub record Faced : Type 0 where
 
 -- refusal 1, packed
 unfoldable pub no_state : ℕ
-no_state = packed_answer (Refused BadCall NoChannel) PARTS 0
+no_state = packed_answer (Refused BadCall None) PARTS 0
 
 -- a call on the table that a state tells. Bytes that are no state of the client: refusal 1, and every byte stays.
 unfoldable pub faced : List ℕ → List ℕ → List ℕ → Whole → Faced
@@ -63,14 +61,10 @@ dvc_started state store = begins CLIENT (started store).table state store
 
 -- ---- the same, as the code has it. Nobody need believe what follows: proofs/Calls shows that it is so.
 
--- what the host asks: what a PDU asks, or a close of the number
-unfoldable pub asked_by : Bool → List ℕ → List ℕ → ℕ → Asked
-asked_by heard list pdu n = cond heard (heard_in list pdu (read_pdu true pdu)) (closing_of n)
-
--- refusal 1: store or reply is not of its size, the bytes are no state of the client, or the table is unsound
-unfoldable pub bad_face : List ℕ → ℕ → ℕ → Bool
-bad_face state storeSize replySize =
-    not (eqb storeSize STORE) || (ltb replySize REPLY_MIN || not (is_good CLIENT false state))
+-- refusal 1: store or reply is not of its size, the bytes are no state of the end with this mark, or the table is unsound
+unfoldable pub bad_face : ℕ → Bool → List ℕ → ℕ → ℕ → Bool
+bad_face mark asks state storeSize replySize =
+    not (eqb storeSize STORE) || (ltb replySize REPLY_MIN || not (is_good mark asks state))
 
 -- a function gives a step: its answer, and every byte of the state, the store and the reply buffer
 pub record Gives (s : Stepped) (reply : List ℕ) (r : ℕ) (stateAfter storeAfter replyAfter : List ℕ) : Type 0 where

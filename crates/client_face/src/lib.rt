@@ -14,26 +14,17 @@ ghost use Rattle.connection.specs.States.{state_of};
 ghost use Rattle.client.specs.Asking.{told, event_asked};
 ghost use Rattle.client.specs.Client.{stepped};
 ghost use Rattle.saved.specs.Saved.{CLIENT, table_in, is_good};
-ghost use Rattle.client_face.specs.Face.{no_state, dvc_received, dvc_closed, dvc_started, asked_by, bad_face, Gives, faces};
+ghost use Rattle.client_face.specs.Face.{no_state, dvc_received, dvc_closed, dvc_started, bad_face, Gives, faces};
 
-use channel::{Answer, Concern};
-use client::{Asked, Begun};
+use channel::Answer;
+use client::Asked;
 use deciding::Matter;
 use paper::{PARTS, Refusal};
 
-// What the host asks: what a PDU asks, or a close of the number.
-fn asked(heard: bool, list: &[u8], pdu: &[u8], number: u32) -> Asked
-    ensures { result ≡ asked_by heard list.now pdu.now number }
-{
-    if heard {
-        return client::heard(list, pdu);
-    }
-    client::closing(number)
-}
-
-// Refusal 1: the store or the reply buffer is not of its size, the bytes are no state of this end, or the table is unsound.
-fn bad(state: &[u8], store: usize, reply: usize) -> bool
-    ensures { result ≡ bad_face state.now store reply }
+// Refusal 1: the store or the reply buffer is not of its size, the bytes are no state of the end with this mark, or the table is
+// unsound. Only the shore asks.
+pub fn bad(mark: u32, asks: bool, state: &[u8], store: usize, reply: usize) -> bool
+    ensures { result ≡ bad_face mark asks state.now store reply }
 {
     if store != paper::STORE {
         return true;
@@ -41,7 +32,7 @@ fn bad(state: &[u8], store: usize, reply: usize) -> bool
     if reply < paper::REPLY_MIN {
         return true;
     }
-    !saved::good(state, saved::CLIENT, false)
+    !saved::good(state, mark, asks)
 }
 
 fn refused() -> u64
@@ -49,7 +40,7 @@ fn refused() -> u64
 {
     let answer = Answer::Refused {
         why: Refusal::BadCall,
-        concern: Concern::NoChannel,
+        concern: None,
     };
     packing::pack_answer(answer, 0, PARTS, 0)
 }
@@ -96,30 +87,30 @@ fn taken(
 fn call(
     state: &mut [u8],
     store: &mut [u8],
-    heard: bool,
-    list: &[u8],
+    asked: Asked<Matter>,
     pdu: &[u8],
-    number: u32,
     reply: &mut [u8],
 ) -> u64
     ensures value { result ≡ (faces state.old store.old
-        (event_asked (asked_by heard list.now pdu.now number) pdu.now) reply.old).answer }
+        (event_asked asked pdu.now) reply.old).answer }
     ensures state_after { state.new ≡ (faces state.old store.old
-        (event_asked (asked_by heard list.now pdu.now number) pdu.now) reply.old).state }
+        (event_asked asked pdu.now) reply.old).state }
     ensures store_after { store.new ≡ (faces state.old store.old
-        (event_asked (asked_by heard list.now pdu.now number) pdu.now) reply.old).store }
+        (event_asked asked pdu.now) reply.old).store }
     ensures reply_after { reply.new ≡ (faces state.old store.old
-        (event_asked (asked_by heard list.now pdu.now number) pdu.now) reply.old).reply }
+        (event_asked asked pdu.now) reply.old).reply }
 {
-    if bad(state, store.len(), reply.len()) {
+    if bad(saved::CLIENT, false, state, store.len(), reply.len()) {
         return refused();
     }
-    let asked = asked(heard, list, pdu, number);
-    let matter = asked.matter;
-    let block = asked.block;
-    let at = lists::lesser(block.at, pdu.len());
-    let end = at + lists::lesser(block.len, pdu.len() - at);
-    taken(state, store, asked.number, matter, &pdu[at..end], reply)
+    taken(
+        state,
+        store,
+        asked.number,
+        asked.matter,
+        asked.block.of(pdu),
+        reply,
+    )
 }
 
 // Zeroes the store and makes an empty table of the state: 0, or 1 where one of them is not of its size, and then nothing is
@@ -136,11 +127,11 @@ pub extern "C" fn dvc_start(state: &mut [u8], store: &mut [u8]) -> u32
     let started = client::start(store);
     let begun = started.begun;
     match begun {
-        Begun::Done => {
-            saved::begin(state, 67);
+        Ok(()) => {
+            saved::begin(state, saved::CLIENT as u8);
             0
         }
-        Begun::Refused(_) => 1,
+        Err(_) => 1,
     }
 }
 
@@ -162,7 +153,7 @@ pub extern "C" fn dvc_receive(
     ensures reply_after { reply.new ≡ (dvc_received state.old store.old
         list.now pdu.now reply.old).reply }
 {
-    call(state, store, true, list, pdu, 0, reply)
+    call(state, store, client::heard(list, pdu), pdu, reply)
 }
 
 // The host closes a channel. The reply is a Close.
@@ -178,5 +169,5 @@ pub extern "C" fn dvc_local_close(
     ensures store_after { store.new ≡ (dvc_closed state.old store.old number reply.old).store }
     ensures reply_after { reply.new ≡ (dvc_closed state.old store.old number reply.old).reply }
 {
-    call(state, store, false, b"", b"", number, reply)
+    call(state, store, client::closing(number), b"", reply)
 }

@@ -1,10 +1,10 @@
 -- A byte below 80 (hexadecimal) stands in a name exactly if it stands in its UTF-8.
 -- Assumes nothing.
+use Rattle.std.specs.Prelude.{Some}
 use mathlib.Core.Path.{◌≡◌, refl, sym, ◌∙◌}
 use mathlib.Core.Logic.{⊎_elim}
 use mathlib.Core.Bool.{Bool, true, false}
 use mathlib.Core.List.{List, [], ◌∷◌, ◌++◌}
-use mathlib.Core.Option.{some}
 use Prim.Native.Nat.{ℕ, suc, ◌≤◌, ◌<◌}
 use native.Mathlib.Omega.{arith}
 use borrow.Author.Tests.{eqb-false, ne_eqb}
@@ -55,7 +55,7 @@ each_parts c (x ∷ xs) ys e =
 
 module _ (c : ℕ) (low : c < 0x80) where
   -- the sequence of a byte's code point has c exactly if the byte is c
-  there : (b p : ℕ) → point_for b ≡ some p → (b ≡ c → ⊥) → Each c (sequence_of p)
+  there : (b p : ℕ) → point_for b ≡ Some p → (b ≡ c → ⊥) → Each c (sequence_of p)
   there b p is off =
       ⊎_elim
       (λ (h : p < 0x80).
@@ -72,14 +72,14 @@ module _ (c : ℕ) (low : c < 0x80) where
       (lt_or_le p 0x800))
       (lt_or_le p 0x80)
 
-  back : (b p : ℕ) → point_for b ≡ some p → Each c (sequence_of p) → b ≡ c → ⊥
+  back : (b p : ℕ) → point_for b ≡ Some p → Each c (sequence_of p) → b ≡ c → ⊥
   back b p is each e =
       let own = low_same c low in
       let its = (point_partners b p is).entry_is in
       let same : p ≡ c = sym its ∙ rw e own in
       (rw (same, one_byte c low) at each).0 refl
 
-  in_text : (name points : List ℕ) → partners point_for name ≡ some points → Each c name → Each c (spelled points)
+  in_text : (name points : List ℕ) → partners point_for name ≡ Some points → Each c name → Each c (spelled points)
   unfolding partners spelled
   in_text [] points e w = let empty : points ≡ [] = cc in rw empty tt
   in_text (b ∷ name) points e w =
@@ -87,7 +87,7 @@ module _ (c : ℕ) (low : c < 0x80) where
       let rest = in_text name one.others one.theirs w.1 in
       rw one.all (each_both c (sequence_of one.y) (spelled one.others) (there b one.y one.its w.0) rest)
 
-  in_name : (name points : List ℕ) → partners point_for name ≡ some points → Each c (spelled points) → Each c name
+  in_name : (name points : List ℕ) → partners point_for name ≡ Some points → Each c (spelled points) → Each c name
   unfolding partners spelled
   in_name [] points e w = tt
   in_name (b ∷ name) points e w =
@@ -95,12 +95,12 @@ module _ (c : ℕ) (low : c < 0x80) where
       let parts = each_parts c (sequence_of one.y) (spelled one.others) (rw one.all at w) in
       (back b one.y one.its parts.0, in_name name one.others one.theirs parts.1)
 
-  pub text_without : (name text : List ℕ) → utf8_of name ≡ some text → Without c name → Without c text
+  pub text_without : (name text : List ℕ) → utf8_of name ≡ Some text → Without c name → Without c text
   text_without name text e w =
       let same = utf8_same name text e in
       each_without c text (rw (spells_spelled same.points text same.spell) at (in_text name same.points same.its_points (without_each c name w)))
 
-  pub name_without : (name text : List ℕ) → utf8_of name ≡ some text → Without c text → Without c name
+  pub name_without : (name text : List ℕ) → utf8_of name ≡ Some text → Without c text → Without c name
   name_without name text e w =
       let same = utf8_same name text e in
       let each = without_each c text w in

@@ -1,24 +1,25 @@
--- The bytes of a text from a place on.
+-- The first bytes of a text that has so many.
 -- Assumes nothing.
-use mathlib.Core.Path.{◌≡◌, ◌∙◌}
-use mathlib.Core.List.{List, ◌∷◌}
-use Prim.Native.Nat.{ℕ, ◌+◌, ◌<◌}
-use native.Mathlib.Numerals.{add-one}
+use mathlib.Core.Path.{◌≡◌, refl}
+use mathlib.Core.List.{List, [], ◌∷◌}
+use Prim.Native.Nat.{ℕ, ◌-◌, ◌≤◌, ◌<◌}
 use native.Mathlib.Omega.{arith}
-use lib.ListN.{length, drop, get_or}
-use lib.Seq.{drop-cons}
+use lib.ListN.{length, take, drop, get_or, length-drop}
+use lib.Seq.{take-length}
 
-module _ (text : List ℕ) (at : ℕ) where
-  pub one_at : at < length text → drop at text ≡ get_or text at 0 ∷ drop (at + 1) text
-  one_at h = drop-cons text at 0 h ∙ rw add-one
+pub one_there : (text : List ℕ) → 1 ≤ length text → text ≡ get_or text 0 0 ∷ drop 1 text
+one_there [] h = absurd (omega arith)
+one_there (b ∷ text) h = refl
 
-  pub two_at : at + 1 < length text → drop at text ≡ get_or text at 0 ∷ get_or text (at + 1) 0 ∷ drop (at + 2) text
-  two_at h =
-      let e : at + 1 + 1 ≡ at + 2 = omega arith in
-      one_at (omega arith) ∙ rw (drop-cons text (at + 1) 0 h, ← (add-one (at + 1)), e)
+pub two_there : (text : List ℕ) → 2 ≤ length text → text ≡ get_or text 0 0 ∷ get_or text 1 0 ∷ drop 2 text
+two_there [] h = absurd (omega arith)
+two_there (b ∷ []) h = absurd (omega arith)
+two_there (b ∷ c ∷ text) h = refl
 
-  pub three_at : at + 2 < length text
-      → drop at text ≡ get_or text at 0 ∷ get_or text (at + 1) 0 ∷ get_or text (at + 2) 0 ∷ drop (at + 3) text
-  three_at h =
-      let e : at + 2 + 1 ≡ at + 3 = omega arith in
-      two_at (omega arith) ∙ rw (drop-cons text (at + 2) 0 h, ← (add-one (at + 2)), e)
+pub none_there : (text : List ℕ) → length text < 1 → text ≡ []
+none_there [] h = refl
+none_there (b ∷ text) h = absurd (omega arith)
+
+-- what a text has behind so many bytes, as the code takes it
+pub rest_behind : (text : List ℕ) (n : ℕ) → take (length text - n) (drop n text) ≡ drop n text
+rest_behind text n = rw (← (length-drop n text)) (take-length (drop n text))

@@ -1,20 +1,19 @@
 -- The sequence at the front of a text is that of a scalar value, whose size says what its first byte is.
 -- Assumes nothing.
+use Rattle.std.specs.Prelude.{None}
 use mathlib.Core.Path.{◌≡◌, refl, sym, ap, ◌∙◌}
 use mathlib.Core.Logic.{◌⊎◌, inl, ⊎_elim}
 use mathlib.Core.Bool.{true, false}
 use mathlib.Core.List.{List, [], ◌∷◌, ◌++◌}
-use mathlib.Core.Option.{none}
 use Prim.Native.Nat.{ℕ, ◌+◌, ◌*◌, ◌/◌, ◌%◌, ◌≤◌, ◌<◌}
 use native.Mathlib.Omega.{arith}
 use borrow.Author.Tests.{eq-eqb, ne_eqb}
-use lib.ListN.{length, take, drop, take-append-drop}
+use lib.ListN.{length, length-append, take, drop, take-append-drop}
 use lib.Seq.{take_at}
 use Rattle.lists.proofs.Cases.{lt_or_le, true_not_false}
 use Rattle.codepage.specs.Points.{byte_for}
 use Rattle.codepage.specs.Utf8.{TAIL, IsScalar, sequences, sequence_of, point_in, is_in, width_at}
 use Rattle.codepage.specs.Names.{front_by, front_of}
-use Rattle.codepage.specs.declared.Front.TheVariants.{Nothing}
 use Rattle.codepage.proofs.Points.{above_none}
 use Rattle.codepage.proofs.Rows as rows
 use Rattle.codepage.proofs.Bits.{one_byte, two_bytes, three_bytes, four_bytes, two_back, three_back, sequence_back, scalar_spelled}
@@ -59,17 +58,25 @@ begun text there =
     }
 
 -- where no scalar value that has a byte stands at the front
-pub front_nothing : (text : List ℕ) → ((p : ℕ) (behind : List ℕ) → IsScalar p → text ≡ sequence_of p ++ behind → byte_for p ≡ none) → front_of text ≡ Nothing
+pub front_nothing : (text : List ℕ) → ((p : ℕ) (behind : List ℕ) → IsScalar p → text ≡ sequence_of p ++ behind → byte_for p ≡ None) → front_of text ≡ None
 unfolding front_of
 front_nothing text off = ⊎_elim some_there none_there (lt_or_le 0 (width_at text))
   where
-    some_there : 0 < width_at text → front_of text ≡ Nothing
+    some_there : 0 < width_at text → front_of text ≡ None
     some_there there =
         let is = begun text there in
         ap front_of is.whole ∙ front_of_law is.point is.behind is.scalar ∙ rw (off is.point is.behind is.scalar is.whole)
 
-    none_there : width_at text ≤ 0 → front_of text ≡ Nothing
+    none_there : width_at text ≤ 0 → front_of text ≡ None
     none_there no-width = rw (eq-eqb (width_at text) 0 (omega arith))
+
+-- nor does anything where no byte is
+pub front_empty : front_of [] ≡ None
+front_empty =
+    front_nothing []
+    (λ p behind s e.
+    let long = (width_of p behind s).1 in
+    absurd (omega (arith, ap length e, length-append (sequence_of p) behind)))
 
 in_tail : (b : ℕ) → 0x80 ≤ b → b ≤ 0xBF → is_in TAIL b ≡ true
 in_tail b h g = rows.in_range TAIL b h g
@@ -99,10 +106,10 @@ first p a rest behind e =
     (lt_or_le p 0x80)
 
 -- nothing is read where no first byte can stand: behind a first byte, in too long a form, or before four bytes
-pub nothing_first : (a : ℕ) (rest : List ℕ) → 0x80 ≤ a → (a < 0xC2) ⊎ (0xF0 ≤ a) → front_of (a ∷ rest) ≡ Nothing
+pub nothing_first : (a : ℕ) (rest : List ℕ) → 0x80 ≤ a → (a < 0xC2) ⊎ (0xF0 ≤ a) → front_of (a ∷ rest) ≡ None
 nothing_first a rest h out = front_nothing (a ∷ rest) (λ p behind s e. go p behind (first p a rest behind e) out)
   where
-    go : (p : ℕ) (behind : List ℕ) → First p a rest behind → (a < 0xC2) ⊎ (0xF0 ≤ a) → byte_for p ≡ none
+    go : (p : ℕ) (behind : List ℕ) → First p a rest behind → (a < 0xC2) ⊎ (0xF0 ≤ a) → byte_for p ≡ None
     go p behind (one_long g e) out = absurd (omega arith)
     go p behind (two_long g k e f) out = absurd (⊎_elim (λ (o : a < 0xC2). omega arith) (λ (o : 0xF0 ≤ a). omega arith) out)
     go p behind (three_long g k e f) out = absurd (⊎_elim (λ (o : a < 0xC2). omega arith) (λ (o : 0xF0 ≤ a). omega arith) out)
@@ -118,10 +125,10 @@ module _ (a : ℕ) (low : 0xC2 ≤ a) (high : a < 0xE0) where
   two_first p rest behind (three_long g k e f) = absurd (omega arith)
   two_first p rest behind (four_long g e) = absurd (omega arith)
 
-  pub two_short : front_of (a ∷ []) ≡ Nothing
+  pub two_short : front_of (a ∷ []) ≡ None
   two_short = front_nothing (a ∷ []) (λ p behind s e. let z = ap length (two_first p [] behind (first p a [] behind e)) in absurd (omega arith))
 
-  pub two_untailed : (b : ℕ) (rest : List ℕ) → is_in TAIL b ≡ false → front_of (a ∷ b ∷ rest) ≡ Nothing
+  pub two_untailed : (b : ℕ) (rest : List ℕ) → is_in TAIL b ≡ false → front_of (a ∷ b ∷ rest) ≡ None
   two_untailed b rest off =
       front_nothing (a ∷ b ∷ rest)
       (λ p behind s e.
@@ -153,10 +160,10 @@ module _ (a : ℕ) (low : 0xE0 ≤ a) (high : a < 0xF0) where
   three_first p rest behind (four_long g e) = absurd (omega arith)
 
   -- whatever stands at the front is such
-  no_three : (rest : List ℕ) → ((p : ℕ) (behind : List ℕ) → Three p rest behind → byte_for p ≡ none) → front_of (a ∷ rest) ≡ Nothing
+  no_three : (rest : List ℕ) → ((p : ℕ) (behind : List ℕ) → Three p rest behind → byte_for p ≡ None) → front_of (a ∷ rest) ≡ None
   no_three rest off = front_nothing (a ∷ rest) (λ p behind s e. off p behind (three_first p rest behind (first p a rest behind e)))
 
-  pub three_short : (rest : List ℕ) → length rest < 2 → front_of (a ∷ rest) ≡ Nothing
+  pub three_short : (rest : List ℕ) → length rest < 2 → front_of (a ∷ rest) ≡ None
   three_short rest few = no_three rest (λ p behind is. let z = ap length is.others in absurd (omega arith))
 
   module _ (b c : ℕ) (rest : List ℕ) where
@@ -173,18 +180,18 @@ module _ (a : ℕ) (low : 0xE0 ≤ a) (high : a < 0xF0) where
         let third : c ≡ 0x80 + p % 64 = cc in
         record { second = second; third = third; all = omega (arith, is.lead, is.most) }
 
-    pub second_untailed : is_in TAIL b ≡ false → front_of (a ∷ b ∷ c ∷ rest) ≡ Nothing
+    pub second_untailed : is_in TAIL b ≡ false → front_of (a ∷ b ∷ c ∷ rest) ≡ None
     second_untailed off =
         no_three (b ∷ c ∷ rest)
         (λ p behind is. let t = tails p behind is in absurd (true_not_false (sym (in_tail b (omega arith) (omega arith)) ∙ off)))
 
-    pub third_untailed : is_in TAIL c ≡ false → front_of (a ∷ b ∷ c ∷ rest) ≡ Nothing
+    pub third_untailed : is_in TAIL c ≡ false → front_of (a ∷ b ∷ c ∷ rest) ≡ None
     third_untailed off =
         no_three (b ∷ c ∷ rest)
         (λ p behind is. let t = tails p behind is in absurd (true_not_false (sym (in_tail c (omega arith) (omega arith)) ∙ off)))
 
     -- too long a form
-    pub three_over : point_in (a ∷ b ∷ c ∷ []) < 0x800 → front_of (a ∷ b ∷ c ∷ rest) ≡ Nothing
+    pub three_over : point_in (a ∷ b ∷ c ∷ []) < 0x800 → front_of (a ∷ b ∷ c ∷ rest) ≡ None
     unfolding point_in
     three_over under =
         no_three (b ∷ c ∷ rest) (λ p behind is. let t = tails p behind is in let g = is.least in absurd (omega (arith, under, t.all, g)))

@@ -1,9 +1,9 @@
 -- The page of listener names: what is promised of the table, of `codepage::to_utf8` and of `codepage::from_utf8`.
 -- Assumes nothing.
+use Rattle.std.specs.Prelude.{Option, None, Some, is_some, Ok, Err}
 use mathlib.Core.Path.{◌≡◌, refl, sym, ◌∙◌}
 use mathlib.Core.Bool.{not}
 use mathlib.Core.List.{List, [], ◌∷◌, map}
-use mathlib.Core.Option.{Option, none, some}
 use Prim.Native.Nat.{ℕ, ◌≤◌, ◌<◌}
 use lib.Dec.{eqb}
 use lib.ListN.{length, take}
@@ -12,10 +12,9 @@ use Rattle.paper.specs.Rows.{first_held, comes_to}
 use Rattle.paper.specs.declared.Refusal.{Refusal}
 use Rattle.records.specs.Walks.{front_of, records_in, records_of, size_of, rest_of}
 use Rattle.records.specs.Items.{items_in}
-use Rattle.codepage.specs.declared.Converted.TheVariants.{Length, Refused}
 use Rattle.codepage.specs.Points.{NONE, BYTES, points, is_five, point_of, byte_for}
 use Rattle.codepage.specs.Utf8.{IsScalar, sequences, sequence_of, point_in, Spells, begins, width_by, width_at, points_in, is_well_formed}
-use Rattle.codepage.specs.Names.{partners, utf8_of, name_of, is_some, result_of, answer_for, buffer_for, number_for}
+use Rattle.codepage.specs.Names.{partners, utf8_of, name_of, result_of, answer_for, buffer_for, number_for}
 use Rattle.codepage.specs.Promises.{WellFormed, Same, has_five, Bytes, converting_rows, outcome, answer_in}
 use Rattle.codepage.proofs.Points as table
 use Rattle.codepage.proofs.Names as names
@@ -42,10 +41,10 @@ pub no_two_equal : (j k : ℕ) → j < BYTES → k < BYTES → point_of j ≡ po
 no_two_equal = table.distinct
 
 -- the controls from U+0080 to U+009F, and 65,535, have no byte
-pub controls_have_none : (point : ℕ) → 0x80 ≤ point → point < 0xA0 → byte_for point ≡ none
+pub controls_have_none : (point : ℕ) → 0x80 ≤ point → point < 0xA0 → byte_for point ≡ None
 controls_have_none = table.controls_none
 
-pub 65535_has_none : byte_for NONE ≡ none
+pub 65535_has_none : byte_for NONE ≡ None
 unfolding byte_for
 65535_has_none = refl
 
@@ -62,47 +61,47 @@ pub one_reading : (points points' text : List ℕ) → Spells points text → Sp
 one_reading = promises.one_reading
 
 -- what `to_utf8` writes is well formed: a name's text; and on its contract, the bytes at the front of the buffer
-pub well_formed : (name text : List ℕ) → utf8_of name ≡ some text → WellFormed text
+pub well_formed : (name text : List ℕ) → utf8_of name ≡ Some text → WellFormed text
 well_formed = promises.well_formed
 
-pub writes_well_formed : (κs : _) (a : _) (r : _) (s : _) → to-utf8.Post κs a r s → (n : ℕ) → r ≡ Length n → WellFormed (take n s.1.0.now)
+pub writes_well_formed : (κs : _) (a : _) (r : _) (s : _) → to-utf8.Post κs a r s → (n : ℕ) → r ≡ Ok n → WellFormed (take n s.1.0.now)
 writes_well_formed κs a r s p n is = promises.written_formed a.0.now _ _ n (sym p.0 ∙ is) p.1
 
 -- ---- the conversions
 
 -- each gives exactly the other side of the same name: every byte's code point, and the bytes that spell these
-pub to_exactly : (name text : List ℕ) → utf8_of name ≡ some text → Same name text
+pub to_exactly : (name text : List ℕ) → utf8_of name ≡ Some text → Same name text
 to_exactly = names.utf8_same
 
-pub to_all : (name text : List ℕ) → Same name text → utf8_of name ≡ some text
+pub to_all : (name text : List ℕ) → Same name text → utf8_of name ≡ Some text
 to_all = names.same_utf8
 
-pub from_exactly : (text name : List ℕ) → name_of text ≡ some name → Same name text
+pub from_exactly : (text name : List ℕ) → name_of text ≡ Some name → Same name text
 from_exactly = names.name_same
 
-pub from_all : (text name : List ℕ) → Same name text → name_of text ≡ some name
+pub from_all : (text name : List ℕ) → Same name text → name_of text ≡ Some name
 from_all = names.same_name
 
 -- "a converted name comes back as it was", and a converted text
-pub name_back : (name text : List ℕ) → utf8_of name ≡ some text → name_of text ≡ some name
+pub name_back : (name text : List ℕ) → utf8_of name ≡ Some text → name_of text ≡ Some name
 name_back = names.name_back
 
-pub text_back : (text name : List ℕ) → name_of text ≡ some name → utf8_of name ≡ some text
+pub text_back : (text name : List ℕ) → name_of text ≡ Some name → utf8_of name ≡ Some text
 text_back = names.text_back
 
 -- The same on the functions' own contracts: a call of the one that answers a length, and a call of the other on what it wrote, with room.
 -- The input is the first parameter, the buffer the second.
 pub name_comes_back :
     (κs : _) (a : _) (r : _) (s : _) → to-utf8.Post κs a r s → (κs' : _) (a' : _) (r' : _) (s' : _) → from-utf8.Post κs' a' r' s'
-    → (n : ℕ) → r ≡ Length n → a'.0.now ≡ take n s.1.0.now → length a.0.now ≤ length a'.1.0.now
-    → (r' ≡ Length (length a.0.now)) × (take (length a.0.now) s'.1.0.now ≡ a.0.now)
+    → (n : ℕ) → r ≡ Ok n → a'.0.now ≡ take n s.1.0.now → length a.0.now ≤ length a'.1.0.now
+    → (r' ≡ Ok (length a.0.now)) × (take (length a.0.now) s'.1.0.now ≡ a.0.now)
 name_comes_back κs a r s p κs' a' r' s' p' n is given room =
     promises.back_again utf8_of name_of names.name_back a.0.now _ _ n r p.0 p.1 is a'.0.now _ _ r' given p'.0 p'.1 room
 
 pub text_comes_back :
     (κs : _) (a : _) (r : _) (s : _) → from-utf8.Post κs a r s → (κs' : _) (a' : _) (r' : _) (s' : _) → to-utf8.Post κs' a' r' s'
-    → (n : ℕ) → r ≡ Length n → a'.0.now ≡ take n s.1.0.now → length a.0.now ≤ length a'.1.0.now
-    → (r' ≡ Length (length a.0.now)) × (take (length a.0.now) s'.1.0.now ≡ a.0.now)
+    → (n : ℕ) → r ≡ Ok n → a'.0.now ≡ take n s.1.0.now → length a.0.now ≤ length a'.1.0.now
+    → (r' ≡ Ok (length a.0.now)) × (take (length a.0.now) s'.1.0.now ≡ a.0.now)
 text_comes_back κs a r s p κs' a' r' s' p' n is given room =
     promises.back_again name_of utf8_of names.text_back a.0.now _ _ n r p.0 p.1 is a'.0.now _ _ r' given p'.0 p'.1 room
 
@@ -118,11 +117,11 @@ pub by_the_five : (name : List ℕ) → Bytes name → is_some (utf8_of name) �
 by_the_five = promises.by_the_five
 
 -- "Both leave the buffer unchanged."
-pub refused_leaves : (result : Option (List ℕ)) (out : List ℕ) (why : Refusal) → answer_for result out ≡ Refused why → buffer_for result out ≡ out
+pub refused_leaves : (result : Option (List ℕ)) (out : List ℕ) (why : Refusal) → answer_for result out ≡ Err why → buffer_for result out ≡ out
 refused_leaves = answers.refused_leaves
 
 -- a length is that of the result, which stands at the front, and the bytes behind it stay
-pub length_written : (result : Option (List ℕ)) (out : List ℕ) (n : ℕ) → answer_for result out ≡ Length n → promises.Written result out n
+pub length_written : (result : Option (List ℕ)) (out : List ℕ) (n : ℕ) → answer_for result out ≡ Ok n → promises.Written result out n
 length_written = promises.length_written
 
 -- ---- from C: the one number tells the answer
@@ -135,7 +134,7 @@ number_undone = promises.number_undone
 -- the euro sign, a letter with an accent, and both ends of the ranges of one and two bytes
 pub converted : map name_of
     ((0xE2 ∷ 0x82 ∷ 0xAC ∷ []) ∷ (0xC3 ∷ 0xA9 ∷ []) ∷ (0x00 ∷ 0x7F ∷ []) ∷ (0xC2 ∷ 0xA0 ∷ 0xC3 ∷ 0xBF ∷ []) ∷ (0xE2 ∷ 0x84 ∷ 0xA2 ∷ []) ∷ [])
-    ≡ some (0x80 ∷ []) ∷ some (0xE9 ∷ []) ∷ some (0x00 ∷ 0x7F ∷ []) ∷ some (0xA0 ∷ 0xFF ∷ []) ∷ some (0x99 ∷ []) ∷ []
+    ≡ Some (0x80 ∷ []) ∷ Some (0xE9 ∷ []) ∷ Some (0x00 ∷ 0x7F ∷ []) ∷ Some (0xA0 ∷ 0xFF ∷ []) ∷ Some (0x99 ∷ []) ∷ []
 unfolding name_of is_well_formed rest_of size_of records_of records_in front_of width_at width_by begins sequences points_in items_in point_in partners byte_for
     points place
 converted = refl
@@ -148,8 +147,8 @@ pub refused : map name_of
     ∷ (0xC3 ∷ []) ∷ (0xE2 ∷ 0x82 ∷ []) ∷ (0xF0 ∷ 0x9F ∷ 0x98 ∷ []) ∷ (0x41 ∷ 0xC3 ∷ []) ∷ (0xC3 ∷ 0x41 ∷ [])
     ∷ (0xF4 ∷ 0x90 ∷ 0x80 ∷ 0x80 ∷ []) ∷ (0xF5 ∷ 0x80 ∷ 0x80 ∷ 0x80 ∷ [])
     ∷ (0xC2 ∷ 0x81 ∷ []) ∷ (0xEF ∷ 0xBF ∷ 0xBF ∷ []) ∷ (0xF0 ∷ 0x90 ∷ 0x80 ∷ 0x80 ∷ []) ∷ (0xF4 ∷ 0x8F ∷ 0xBF ∷ 0xBF ∷ []) ∷ [])
-    ≡ none ∷ none ∷ none ∷ none ∷ none ∷ none ∷ none ∷ none ∷ none ∷ none ∷ none ∷ none ∷ none ∷ none ∷ none ∷ none ∷ none ∷ none ∷ none ∷ none
-    ∷ none ∷ none ∷ []
+    ≡ None ∷ None ∷ None ∷ None ∷ None ∷ None ∷ None ∷ None ∷ None ∷ None ∷ None ∷ None ∷ None ∷ None ∷ None ∷ None ∷ None ∷ None ∷ None ∷ None
+    ∷ None ∷ None ∷ []
 unfolding name_of is_well_formed rest_of size_of records_of records_in front_of width_at width_by begins sequences points_in items_in point_in partners byte_for
     points place
 refused = refl

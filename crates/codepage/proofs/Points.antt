@@ -1,18 +1,21 @@
 -- The table: its identity ranges, its five entries without a code point, and that no two others are equal, tested once over the whole.
 -- Assumes nothing.
+use Rattle.std.specs.Prelude.{Option, None, Some, ◌==◌}
 use mathlib.Core.Path.{◌≡◌, refl, sym, ◌∙◌}
 use mathlib.Core.Logic.{⊎_elim}
-use mathlib.Core.Bool.{Bool, true, false, cond, ◌&&◌, ◌||◌, beq}
-use mathlib.Core.Option.{Option, none, some}
-use Prim.Native.Nat.{ℕ, ◌≤◌, ◌<◌}
+use mathlib.Core.Bool.{Bool, true, false, cond, not, ◌&&◌, ◌||◌, beq}
+use mathlib.Core.List.{List, [], ◌∷◌}
+use Prim.Native.Nat.{ℕ, ◌+◌, ◌≤◌, ◌<◌}
 use native.Mathlib.Omega.{arith}
 use borrow.Author.Tests.{ltb-true, eqb-true, eqb-false, lt-ltb, le-ltb, le-leb, lt-leb, ne_eqb}
 use lib.Dec.{eqb, ltb, leb}
 use lib.ListN.{length, get_or, get_or-eq_default}
-use Rattle.lists.specs.Places.{place}
+use Rattle.lists.specs.Places.{place, here_or}
 use Rattle.lists.proofs.Cases.{both, lt_or_le, true_not_false}
 use Rattle.lists.proofs.Places.{place_passes}
 use Rattle.codepage.specs.Points.{NONE, BYTES, points, is_five, point_of, point_for, is_entry, found, byte_for}
+use Rattle.std.specs.List.{position, position_or_len}
+use Rattle.std.proofs.lemmas.List.Quantifiers.{position-Some}
 use Rattle.codepage.proofs.Entries.{every, at_each, entry_there}
 
 -- ---- the test
@@ -104,11 +107,11 @@ pub record Partners (b p : ℕ) : Type 0 where
   pub entry_is : point_of b ≡ p
   pub is_one : p ≡ NONE → ⊥
 
-pub partners_point : (b p : ℕ) → Partners b p → point_for b ≡ some p
+pub partners_point : (b p : ℕ) → Partners b p → point_for b ≡ Some p
 unfolding point_for
 partners_point b p are = rw (are.entry_is, ne_eqb p NONE are.is_one)
 
-pub partners_byte : (b p : ℕ) → Partners b p → byte_for p ≡ some b
+pub partners_byte : (b p : ℕ) → Partners b p → byte_for p ≡ Some b
 unfolding byte_for
 partners_byte b p are =
     let off = ne_eqb p NONE are.is_one in
@@ -116,11 +119,11 @@ partners_byte b p are =
     let here : place (is_entry p) points ≡ b = eqb-true _ b only in
     rw (off, here, lt-ltb b BYTES are.byte)
 
-pub point_partners : (b p : ℕ) → point_for b ≡ some p → Partners b p
+pub point_partners : (b p : ℕ) → point_for b ≡ Some p → Partners b p
 unfolding point_for point_of
 point_partners b p e = go (eqb (point_of b) NONE) refl e
   where
-    go : (t : Bool) → eqb (point_of b) NONE ≡ t → ◌≡◌ {A = Option ℕ} (cond t none (some (point_of b))) (some p) → Partners b p
+    go : (t : Bool) → eqb (point_of b) NONE ≡ t → ◌≡◌ {A = Option ℕ} (cond t None (Some (point_of b))) (Some p) → Partners b p
     go true off f = let z : ◌≡◌ {A = ℕ} 0 1 = cc in absurd (omega arith)
     go false off f =
         let is : point_of b ≡ p = cc in
@@ -131,12 +134,12 @@ point_partners b p e = go (eqb (point_of b) NONE) refl e
           is_one = λ z. one (is ∙ z);
         }
 
-pub byte_partners : (p b : ℕ) → byte_for p ≡ some b → Partners b p
+pub byte_partners : (p b : ℕ) → byte_for p ≡ Some b → Partners b p
 unfolding byte_for point_of
 byte_partners p b e = go (eqb p NONE) refl e
   where
     at_place : (t : Bool) → ltb (place (is_entry p) points) BYTES ≡ t → (p ≡ NONE → ⊥)
-        → ◌≡◌ {A = Option ℕ} (cond t (some (place (is_entry p) points)) none) (some b) → Partners b p
+        → ◌≡◌ {A = Option ℕ} (cond t (Some (place (is_entry p) points)) None) (Some b) → Partners b p
     at_place true there one f =
         let here : place (is_entry p) points ≡ b = cc in
         let below = ltb-true (place (is_entry p) points) BYTES there in
@@ -144,7 +147,7 @@ byte_partners p b e = go (eqb p NONE) refl e
         record { byte = rw here at below; entry_is = eqb-true (get_or points b NONE) p (rw here at passes); is_one = one }
     at_place false there one f = let z : ◌≡◌ {A = ℕ} 0 1 = cc in absurd (omega arith)
 
-    go : (t : Bool) → eqb p NONE ≡ t → ◌≡◌ {A = Option ℕ} (cond t none (found (place (is_entry p) points))) (some b) → Partners b p
+    go : (t : Bool) → eqb p NONE ≡ t → ◌≡◌ {A = Option ℕ} (cond t None (found (place (is_entry p) points))) (Some b) → Partners b p
     go true off f = let z : ◌≡◌ {A = ℕ} 0 1 = cc in absurd (omega arith)
     go false off f = at_place (ltb (place (is_entry p) points) BYTES) refl (eqb-false p NONE off) f
 
@@ -162,15 +165,15 @@ distinct j k h g e n =
 -- ---- code points without a byte
 
 -- none, or one whose partner would be wrong
-pub no_partner : (p : ℕ) → ((b : ℕ) → Partners b p → ⊥) → byte_for p ≡ none
+pub no_partner : (p : ℕ) → ((b : ℕ) → Partners b p → ⊥) → byte_for p ≡ None
 no_partner p off = go (byte_for p) refl
   where
-    go : (r : Option ℕ) → byte_for p ≡ r → byte_for p ≡ none
-    go none e = e
-    go (some b) e = absurd (off b (byte_partners p b e))
+    go : (r : Option ℕ) → byte_for p ≡ r → byte_for p ≡ None
+    go None e = e
+    go (Some b) e = absurd (off b (byte_partners p b e))
 
 -- the controls from 80 to 9F
-pub controls_none : (p : ℕ) → 0x80 ≤ p → p < 0xA0 → byte_for p ≡ none
+pub controls_none : (p : ℕ) → 0x80 ≤ p → p < 0xA0 → byte_for p ≡ None
 controls_none p low high =
     no_partner p
     (λ b are.
@@ -178,23 +181,28 @@ controls_none p low high =
     true_not_false (sym out))
 
 -- from the surrogates on
-pub above_none : (p : ℕ) → 0xD800 ≤ p → byte_for p ≡ none
+pub above_none : (p : ℕ) → 0xD800 ≤ p → byte_for p ≡ None
 above_none p high = no_partner p (λ b are. omega (arith, partners_plain b p are))
 
--- those that no entry from 80 to 9F is for
-pub not_among : (p : ℕ) → BYTES ≤ p → ((k : ℕ) → 0x80 ≤ k → k < 0xA0 → point_of k ≡ p → ⊥) → byte_for p ≡ none
-not_among p high off =
-    no_partner p
-    (λ b are.
-    ⊎_elim
-    (λ (h : b < 0x80). omega (arith, low_same b h, are.entry_is))
-    (λ (h : 0x80 ≤ b).
-    ⊎_elim
-    (λ (g : b < 0xA0). off b h g are.entry_is)
-    (λ (g : 0xA0 ≤ b). let k = are.byte in omega (arith, high_same b g k, are.entry_is))
-    (lt_or_le b 0xA0))
-    (lt_or_le b 0x80))
+-- the place of the first that passes, as the library finds it
+place_is : (test : ℕ → Bool) (xs : List ℕ) → position_or_len test xs ≡ place test xs
+unfolding place
+place_is test [] = refl
+place_is test (x ∷ xs) = go (test x) (place_is test xs)
+  where
+    go : (t : Bool) → position_or_len test xs ≡ place test xs → cond (not t) (1 + position_or_len test xs) 0 ≡ here_or t (place test xs)
+    go true e = refl
+    go false e = omega arith
+
+-- the byte of a code point is found in the table
+pub found_in_table : (p : ℕ) → (p ≡ NONE → ⊥) → position (λ entry. entry == p) points ≡ byte_for p
+unfolding byte_for
+found_in_table p one = rw (ne_eqb p NONE one, ← size, ← (place_is (is_entry p) points)) refl
+
+-- such a place is a byte
+pub place_byte : (p i : ℕ) → Some i ≡ position (λ entry. entry == p) points → i < BYTES
+place_byte p i e = rw size at (position-Some (λ entry. entry == p) points i 0 (sym e)).0
 
 -- a byte by itself
-pub own_byte : (b : ℕ) → b < BYTES → point_of b ≡ b → byte_for b ≡ some b
+pub own_byte : (b : ℕ) → b < BYTES → point_of b ≡ b → byte_for b ≡ Some b
 own_byte b h same = partners_byte b b (record { byte = h; entry_is = same; is_one = λ z. omega arith })

@@ -1,6 +1,5 @@
 -- "from a table of 256 entries giving each byte's code point, 65,535 for the five bytes 81, 8D, 8F, 90 and 9D (hexadecimal) that have none"
-use Rattle.std.specs.Prelude.{ℕ, Bool, cond, ◌||◌, List, [], ◌∷◌, eqb, ltb, get_or}
-use Rattle.std.proofs.Math.Option.{Option, none, some}
+use Rattle.std.specs.Prelude.{ℕ, Bool, cond, ◌||◌, List, [], ◌∷◌, eqb, ltb, get_or, Option, None, Some}
 use Rattle.lists.specs.Places.{place}
 
 -- "65,535 for the five bytes [..] that have none"
@@ -44,14 +43,14 @@ point_of byte = get_or points byte NONE
 
 -- a byte's code point
 unfoldable pub point_for : ℕ → Option ℕ
-point_for byte = cond (eqb (point_of byte) NONE) none (some (point_of byte))
+point_for byte = cond (eqb (point_of byte) NONE) None (Some (point_of byte))
 
 -- a code point's byte is the place of its entry. No entry is for 65,535, though it stands in the table
 abbrev pub is_entry : ℕ → ℕ → Bool
 is_entry point entry = eqb entry point
 
 abbrev pub found : ℕ → Option ℕ
-found at = cond (ltb at BYTES) (some at) none
+found at = cond (ltb at BYTES) (Some at) None
 
 unfoldable pub byte_for : ℕ → Option ℕ
-byte_for point = cond (eqb point NONE) none (found (place (is_entry point) points))
+byte_for point = cond (eqb point NONE) None (found (place (is_entry point) points))

@@ -1,14 +1,12 @@
 -- What is promised of names.
-use Rattle.std.specs.Prelude.{◌≡◌, ℕ, ◌<◌, Bool, false, cond, not, ◌||◌, List, [], ◌∷◌, eqb, ℤ, pos, negsuc}
-use Rattle.std.proofs.Math.Option.{Option, some}
+use Rattle.std.specs.Prelude.{◌≡◌, ℕ, ◌<◌, Bool, false, cond, not, ◌||◌, List, [], ◌∷◌, eqb, ℤ, pos, negsuc, Option, Some, is_some, Result, Ok, Err}
 use Rattle.paper.specs.Refusals.{refusal_number}
 use Rattle.paper.specs.Rows.{Row, row, Outcome, done, refusal}
 use Rattle.paper.specs.declared.Refusal.TheVariants.{NoPartner, NoRoom}
-use Rattle.codepage.specs.declared.Converted.{Converted}
-use Rattle.codepage.specs.declared.Converted.TheVariants.{Length, Refused}
+use Rattle.paper.specs.declared.Refusal.{Refusal}
 use Rattle.codepage.specs.Points.{BYTES, is_five, point_for}
 use Rattle.codepage.specs.Utf8.{Spells}
-use Rattle.codepage.specs.Names.{partners, is_some, result_of, is_over}
+use Rattle.codepage.specs.Names.{partners, result_of, is_over}
 
 -- ---- which texts
 
@@ -20,7 +18,7 @@ pub record WellFormed (text : List ℕ) : Type 0 where
 -- a name and its text: each byte's code point, and the bytes that spell these
 pub record Same (name text : List ℕ) : Type 0 where
   pub points : List ℕ
-  pub its_points : partners point_for name ≡ some points
+  pub its_points : partners point_for name ≡ Some points
   pub spell : Spells points text
 
 -- ---- which names
@@ -39,12 +37,12 @@ Bytes (b ∷ bytes) = (b < BYTES) × Bytes bytes
 unfoldable pub converting_rows : Option (List ℕ) → List ℕ → List Row
 converting_rows result out = row NoPartner (not (is_some result)) ∷ row NoRoom (is_over (result_of result) out) ∷ []
 
-unfoldable pub outcome : Converted → Outcome ℕ
-outcome (Length n) = done n
-outcome (Refused why) = refusal (refusal_number why)
+unfoldable pub outcome : Result ℕ Refusal → Outcome ℕ
+outcome (Ok n) = done n
+outcome (Err why) = refusal (refusal_number why)
 
 -- ---- how C reads the one number: `negsuc n` is -1 - n
 
-unfoldable pub answer_in : ℤ → Converted
-answer_in (pos n) = Length n
-answer_in (negsuc n) = cond (eqb n 18) (Refused NoPartner) (Refused NoRoom)
+unfoldable pub answer_in : ℤ → Result ℕ Refusal
+answer_in (pos n) = Ok n
+answer_in (negsuc n) = cond (eqb n 18) (Err NoPartner) (Err NoRoom)

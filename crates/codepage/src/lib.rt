@@ -4,17 +4,18 @@
 // lent; the bytes behind stay. It refuses with 19 where a byte or a code point has no partner or the text isn't well-formed UTF-8, and
 // then with 20 where the result doesn't fit; both leave every byte of the buffer. All of the input is judged before the room is.
 //
-// Both go by one table, Windows-1252 as Unicode publishes it: `point_of` gives a byte's entry. `has_name` says whether a text can be
-// converted at all. `dvc_name_to_utf8` and `dvc_name_from_utf8` are the two conversions for hosts in C.
+// Both go by one table, Windows-1252 as Unicode publishes it: `point_of` gives a byte's entry, and `point_for` its code point, if it has
+// one. `has_name` says whether a text can be converted at all. `dvc_name_to_utf8` and `dvc_name_from_utf8` are the two conversions for hosts in C.
 #![tactic(auto)]
 
 mod windows_1252;
 
-ghost use Rattle.std.specs.Prelude.{◌≡◌, true, false, [], ◌∷◌, ◌+◌, ◌≤◌, ◌<◌, length, drop, get_or};
+ghost use Rattle.std.specs.Prelude.{◌≡◌, [], ◌∷◌, ◌+◌, ◌≤◌, ◌<◌, length, is_some, IsSome, false, ◌==◌};
+ghost use Rattle.std.specs.List.{list_all, position};
 ghost use Rattle.lists.specs.Bytes.{laid};
-ghost use Rattle.codepage.specs.Points.{NONE, points, point_of, byte_for};
+ghost use Rattle.codepage.specs.Points.{NONE, point_of, point_for, byte_for};
 ghost use Rattle.codepage.specs.Utf8.{TAIL, is_in, point_in, sequence_of};
-ghost use Rattle.codepage.specs.Names.{utf8_of, name_of, is_some, result_of, front_by, front_of};
+ghost use Rattle.codepage.specs.Names.{utf8_of, name_of, result_of, front_of};
 ghost use Rattle.codepage.specs.Names.{is_over, answer_for, buffer_for, room_after, size_of, Countable, number_for};
 
 use paper::Refusal;
@@ -23,68 +24,35 @@ use windows_1252::POINTS;
 // Stands in the table for the code point of the five bytes that have none.
 pub const NONE: u16 = 0xFFFF;
 
-// What a conversion answers.
-#[derive(Drop)]
-pub enum Converted {
-    // So many bytes stand at the front of the buffer.
-    Length(usize),
-    Refused(Refusal),
+// What stands at the front of a text: a sequence of so many bytes, whose code point has this byte.
+#[derive(Clone, Copy)]
+struct Front {
+    byte: u8,
+    width: usize,
 }
 
-// How much room is left behind a result.
-#[derive(Drop)]
-enum Room {
-    Left(usize),
-    // The result doesn't fit.
-    Short,
-}
-
-// How long a result is.
-#[derive(Drop)]
-enum Size {
-    Bytes(usize),
-    NoResult,
-}
-
-// What stands at the front of a text.
-#[derive(Drop)]
-enum Front {
-    // A sequence of so many bytes, whose code point has this byte.
-    Byte { byte: u8, width: usize },
-    // No sequence, or one whose code point has no byte.
-    Nothing,
-}
-
-// The entry of a byte in the table: its code point, or `NONE`. Each use of a constant copies it whole, so a loop takes the table once.
-fn entry(table: &[u16], byte: u8) -> u16
-    requires { table.now ≡ points }
-    ensures { result ≡ point_of byte }
-{
-    table[byte as usize]
-}
-
-// The entry of a byte: its code point, or `NONE`.
+// The entry of a byte: its code point, or `NONE`. The table is one of numbers, so an entry is one.
 pub fn point_of(byte: u8) -> u16
     ensures { result ≡ point_of byte }
 {
-    entry(&POINTS, byte)
+    POINTS[byte as usize]
+}
+
+// The code point of a byte, unless it is one of the five.
+pub fn point_for(byte: u8) -> Option<u16>
+    ensures { result ≡ point_for byte }
+{
+    let point = point_of(byte);
+    if point == NONE { None } else { Some(point) }
 }
 
 // ---- to UTF-8
 
 // Whether each byte of a name has a code point.
 fn has_points(name: &[u8]) -> bool
-    ensures { result ≡ is_some (utf8_of name.now) }
+    ensures { result ≡ list_all (λ b. is_some (point_for b)) name.now }
 {
-    let table = POINTS;
-    let mut i = 0;
-    while i < name.len() {
-        if entry(&table, name[i]) == NONE {
-            return false;
-        }
-        i += 1;
-    }
-    true
+    name.iter().all(|b| point_for(*b).is_some())
 }
 
 // How many bytes the sequence of a code point has.
@@ -100,23 +68,16 @@ fn width(point: u16) -> usize
     3
 }
 
-// How much of a room a name in UTF-8 leaves.
-fn room_after(name: &[u8], room: usize) -> Room
-    requires { is_some (utf8_of name.now) ≡ true }
+// How much of a room a name in UTF-8 leaves, if it fits.
+fn room_after(name: &[u8], room: usize) -> Option<usize>
+    requires { IsSome (utf8_of name.now) }
     ensures { result ≡ room_after (utf8_of name.now) room }
 {
-    let table = POINTS;
     let mut left = room;
-    let mut i = 0;
-    while i < name.len() {
-        let n = width(entry(&table, name[i]));
-        if left < n {
-            return Room::Short;
-        }
-        left -= n;
-        i += 1;
+    for b in name {
+        left = left.checked_sub(width(point_of(*b)))?;
     }
-    Room::Left(left)
+    Some(left)
 }
 
 // The sequence of a code point, from a place on. Answers its length.
@@ -142,85 +103,63 @@ fn lay(out: &mut [u8], at: usize, point: u16) -> usize
 
 // Writes a name in UTF-8 to the front of a buffer that has room for it.
 fn write_utf8(name: &[u8], out: &mut [u8])
-    requires name_value { is_some (utf8_of name.now) ≡ true }
+    requires name_value { IsSome (utf8_of name.now) }
     requires out_value { is_over (result_of (utf8_of name.now)) out.old ≡ false }
     ensures { out.new ≡ laid out.old 0 (result_of (utf8_of name.now)) }
 {
-    let table = POINTS;
-    let mut i = 0;
     let mut at = 0;
-    while i < name.len() {
-        at += lay(out, at, entry(&table, name[i]));
-        i += 1;
+    for b in name {
+        at += lay(out, at, point_of(*b));
     }
 }
 
-// A name in UTF-8.
-pub fn to_utf8(name: &[u8], out: &mut [u8]) -> Converted
+// A name in UTF-8. Answers how many bytes of it stand at the front of the buffer.
+pub fn to_utf8(name: &[u8], out: &mut [u8]) -> Result<usize, Refusal>
     ensures value { result ≡ answer_for (utf8_of name.now) out.old }
     ensures out_after { out.new ≡ buffer_for (utf8_of name.now) out.old }
 {
     if !has_points(name) {
-        return Converted::Refused(Refusal::NoPartner);
+        return Err(Refusal::NoPartner);
     }
-    let Room::Left(left) = room_after(name, out.len()) else {
-        return Converted::Refused(Refusal::NoRoom);
-    };
+    let left = room_after(name, out.len()).ok_or(Refusal::NoRoom)?;
     write_utf8(name, out);
-    Converted::Length(out.len() - left)
+    Ok(out.len() - left)
 }
 
 // ---- from UTF-8
 
-// Looks for a code point among the entries that are not their own place.
-fn among(point: u16, width: usize) -> Front
-    requires { (0x100 ≤ point) × (point < NONE) }
-    ensures { result ≡ front_by (byte_for point) width }
+// Where a code point stands in a table.
+fn place(table: &[u16], point: u16) -> Option<usize>
+    ensures { result ≡ position (λ entry. entry == point) table.now }
 {
-    let table = POINTS;
-    let mut byte: u8 = 0x80;
-    while byte < 0xA0 {
-        if entry(&table, byte) == point {
-            return Front::Byte { byte, width };
-        }
-        byte += 1;
-    }
-    Front::Nothing
+    table.iter().position(|entry| *entry == point)
 }
 
-// What a sequence of so many bytes comes to, by its code point. Entries from 80 to 9F (hexadecimal) are not their own place.
-fn of_point(point: u16, width: usize) -> Front
-    ensures { result ≡ front_by (byte_for point) width }
+// Looks for a code point in the whole table.
+fn among(point: u16) -> Option<u8>
+    requires { point < NONE }
+    ensures { result ≡ byte_for point }
 {
-    if point < 0x80 {
-        return Front::Byte {
-            byte: point as u8,
-            width,
-        };
+    let byte = place(&POINTS, point)?;
+    Some(byte as u8)
+}
+
+// The byte of a code point, if it has one. Entries from 80 to 9F (hexadecimal) are not their own place.
+fn byte_for(point: u16) -> Option<u8>
+    ensures { result ≡ byte_for point }
+{
+    match point {
+        0..0x80 | 0xA0..0x100 => Some(point as u8),
+        0x80..0xA0 | NONE => None,
+        _ => among(point),
     }
-    if point < 0xA0 {
-        return Front::Nothing;
-    }
-    if point < 0x100 {
-        return Front::Byte {
-            byte: point as u8,
-            width,
-        };
-    }
-    if point == NONE {
-        return Front::Nothing;
-    }
-    among(point, width)
 }
 
 // Whether a byte may stand behind the first of a sequence.
 fn is_tail(byte: u8) -> bool
     ensures { result ≡ is_in TAIL byte }
 {
-    if byte < 0x80 {
-        return false;
-    }
-    byte <= 0xBF
+    matches!(byte, 0x80..=0xBF)
 }
 
 // The code point of two bytes.
@@ -237,134 +176,116 @@ fn three(first: u8, second: u8, third: u8) -> u16
     ((first % 16) as u16 * 64 + (second % 64) as u16) * 64 + (third % 64) as u16
 }
 
-// What stands at a place with a first byte of two.
-fn of_two(text: &[u8], at: usize) -> Front
-    requires { (at < length text.now) × ((0xC2 ≤ get_or text.now at 0) × (get_or text.now at 0 < 0xE0)) }
-    ensures { result ≡ front_of (drop at text.now) }
+// What stands at the front of a text with a first byte of two.
+fn of_two(first: u8, rest: &[u8]) -> Option<Front>
+    requires { (0xC2 ≤ first) × (first < 0xE0) }
+    ensures { result ≡ front_of (first ∷ rest.now) }
 {
-    if text.len() - at < 2 {
-        return Front::Nothing;
-    }
-    let second = text[at + 1];
+    let [second, ..] = *rest else {
+        return None;
+    };
     if !is_tail(second) {
-        return Front::Nothing;
+        return None;
     }
-    of_point(two(text[at], second), 2)
+    let byte = byte_for(two(first, second))?;
+    Some(Front { byte, width: 2 })
 }
 
-// What stands at a place with a first byte of three. Below 800 (hexadecimal) two bytes would do; a surrogate has no byte.
-fn of_three(text: &[u8], at: usize) -> Front
-    requires { (at < length text.now) × ((0xE0 ≤ get_or text.now at 0) × (get_or text.now at 0 < 0xF0)) }
-    ensures { result ≡ front_of (drop at text.now) }
+// What stands at the front of a text with a first byte of three. Below 800 (hexadecimal) two bytes would do; a surrogate has no byte.
+fn of_three(first: u8, rest: &[u8]) -> Option<Front>
+    requires { (0xE0 ≤ first) × (first < 0xF0) }
+    ensures { result ≡ front_of (first ∷ rest.now) }
 {
-    if text.len() - at < 3 {
-        return Front::Nothing;
+    let [second, third, ..] = *rest else {
+        return None;
+    };
+    if !is_tail(second) || !is_tail(third) {
+        return None;
     }
-    let second = text[at + 1];
-    if !is_tail(second) {
-        return Front::Nothing;
-    }
-    let third = text[at + 2];
-    if !is_tail(third) {
-        return Front::Nothing;
-    }
-    let held = three(text[at], second, third);
+    let held = three(first, second, third);
     if held < 0x800 {
-        return Front::Nothing;
+        return None;
     }
-    of_point(held, 3)
+    let byte = byte_for(held)?;
+    Some(Front { byte, width: 3 })
 }
 
-// What stands at a place of a text, by its first byte. No code point of four bytes has a byte.
-fn front_at(text: &[u8], at: usize) -> Front
-    requires { at < length text.now }
-    ensures { result ≡ front_of (drop at text.now) }
+// What stands at the front of a text, by its first byte. No code point of four bytes has a byte.
+fn front_of(text: &[u8]) -> Option<Front>
+    ensures { result ≡ front_of text.now }
 {
-    let first = text[at];
-    if first < 0x80 {
-        return of_point(first as u16, 1);
+    let [first, ref rest @ ..] = *text else {
+        return None;
+    };
+    match first {
+        0..0x80 => Some(Front {
+            byte: first,
+            width: 1,
+        }),
+        0xC2..0xE0 => of_two(first, rest),
+        0xE0..0xF0 => of_three(first, rest),
+        _ => None,
     }
-    if first < 0xC2 {
-        return Front::Nothing;
-    }
-    if first < 0xE0 {
-        return of_two(text, at);
-    }
-    if first < 0xF0 {
-        return of_three(text, at);
-    }
-    Front::Nothing
 }
 
 // How long the name of a text is, if it has one.
-fn name_len(text: &[u8]) -> Size
+fn name_len(text: &[u8]) -> Option<usize>
     ensures { result ≡ size_of (name_of text.now) }
 {
-    let mut at = 0;
-    let mut n: usize = 0;
-    while at < text.len() {
-        let Front::Byte { byte: _, width } = front_at(text, at) else {
-            return Size::NoResult;
-        };
-        at += width;
+    let mut rest = text;
+    let mut n = 0;
+    while rest.len() != 0 {
+        rest = &rest[front_of(rest)?.width..];
         n += 1;
     }
-    Size::Bytes(n)
+    Some(n)
 }
 
 // Whether a text has a name: it is well formed, and each of its code points has a byte.
 pub fn has_name(text: &[u8]) -> bool
     ensures { result ≡ is_some (name_of text.now) }
 {
-    if let Size::Bytes(_) = name_len(text) {
-        return true;
-    }
-    false
+    name_len(text).is_some()
 }
 
 // Writes the name of a text to the front of a buffer that has room for it.
 fn write_name(text: &[u8], out: &mut [u8])
-    requires text_value { is_some (name_of text.now) ≡ true }
+    requires text_value { IsSome (name_of text.now) }
     requires out_value { is_over (result_of (name_of text.now)) out.old ≡ false }
     ensures { out.new ≡ laid out.old 0 (result_of (name_of text.now)) }
 {
-    let mut at = 0;
+    let mut rest = text;
     let mut n = 0;
-    while at < text.len() {
-        let Front::Byte { byte, width } = front_at(text, at) else {
-            return;
-        };
-        out[n] = byte;
-        at += width;
+    while let Some(front) = front_of(rest) {
+        out[n] = front.byte;
+        rest = &rest[front.width..];
         n += 1;
     }
 }
 
-// The name of a text.
-pub fn from_utf8(text: &[u8], out: &mut [u8]) -> Converted
+// The name of a text. Answers how many bytes of it stand at the front of the buffer.
+pub fn from_utf8(text: &[u8], out: &mut [u8]) -> Result<usize, Refusal>
     ensures value { result ≡ answer_for (name_of text.now) out.old }
     ensures out_after { out.new ≡ buffer_for (name_of text.now) out.old }
 {
-    let Size::Bytes(n) = name_len(text) else {
-        return Converted::Refused(Refusal::NoPartner);
-    };
+    let n = name_len(text).ok_or(Refusal::NoPartner)?;
     if out.len() < n {
-        return Converted::Refused(Refusal::NoRoom);
+        return Err(Refusal::NoRoom);
     }
     write_name(text, out);
-    Converted::Length(n)
+    Ok(n)
 }
 
 // ---- for hosts in C
 
 // An answer in one number: the length, or the refusal's number below zero.
-fn number_for(answer: Converted) -> i64
+fn number_for(answer: Result<usize, Refusal>) -> i64
     requires { Countable answer }
     ensures { result ≡ number_for answer }
 {
     match answer {
-        Converted::Length(n) => n as i64,
-        Converted::Refused(why) => -(paper::refusal_number(why) as i64),
+        Ok(n) => n as i64,
+        Err(why) => -(paper::refusal_number(why) as i64),
     }
 }
 

@@ -1,6 +1,6 @@
 // Windows-1252 as Unicode publishes it: the code point of each byte, and FFFF for the five that have none. A comment stands where the
 // next sixteen begin, and behind each of the five.
-pub const POINTS: [u16; 256] = [
+pub static POINTS: [u16; 256] = [
     // 00
     0x0000, 0x0001, 0x0002, 0x0003, 0x0004, 0x0005, 0x0006, 0x0007, 0x0008, 0x0009, 0x000A, 0x000B,
     0x000C, 0x000D, 0x000E, 0x000F,

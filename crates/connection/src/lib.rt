@@ -35,7 +35,7 @@ fn stands(taken: bool, change: Change) -> bool
     }
 }
 
-// The place of a channel's record after a change at place k, or sixteen where it has none.
+// The place of a channel's record after a change at place k, or sixteen where it has none, as the searches have it.
 pub fn place_after(k: usize, taken: bool, change: Change) -> usize
     ensures { result ≡ place_after k taken change }
 {

@@ -1,6 +1,7 @@
 -- The laws of the answer: when it is given, how large its numbers are, and that its packed form says it all.
 -- Assumes nothing.
-use mathlib.Core.Path.{◌≡◌, refl, ◌∙◌}
+use Rattle.std.specs.Prelude.{Result, Ok, Err}
+use mathlib.Core.Path.{◌≡◌, refl, sym, ap, ◌∙◌}
 use mathlib.Core.Bool.{Bool, cond, true, false, not}
 use mathlib.Core.List.{List}
 use Prim.Native.Nat.{ℕ, ◌+◌, ◌*◌, ◌/◌, ◌%◌, ◌≤◌, ◌<◌}
@@ -10,15 +11,15 @@ use lib.Dec.{ltb, lit<}
 use lib.ListN.{length, take}
 use Rattle.paper.specs.Sizes.{PDU_MAX, MESSAGE_MAX}
 use Rattle.paper.specs.Refusals.{refusal_number}
+use Rattle.paper.specs.declared.Refusal.{Refusal}
 use Rattle.paper.specs.declared.Refusal.TheVariants.{BadCall, OverLimit, NoStart}
 use Rattle.lists.specs.Bytes.{laid}
 use Rattle.lists.proofs.Cases.{choice}
 use Rattle.lists.proofs.Laid.{front}
 use Rattle.laying.specs.Laying.{buffer_after}
-use Rattle.cutting.specs.Cutting.{block_end, is_start, cut_pdu, cut_at, outcome, cut_buffer, LENGTH_UNIT, packed}
+use Rattle.cutting.specs.Cutting.{block_end, is_start, piece_of, cut_pdu, cut_at, outcome, cut_buffer, LENGTH_UNIT, packed}
 use Rattle.cutting.specs.Cutting.{refusal_of, unpacked}
 use Rattle.cutting.specs.declared.Piece.{Piece}
-use Rattle.cutting.specs.declared.Piece.TheVariants.{Pdu, Refused}
 use Rattle.cutting.proofs.Blocks.{header_pos, length_cut, cut_fits, end_within}
 use Rattle.cutting.proofs.Starts.{start_within}
 
@@ -26,16 +27,16 @@ use Rattle.cutting.proofs.Starts.{start_within}
 
 module _ (number : ℕ) (message : List ℕ) (offset : ℕ) (out : List ℕ) where
   -- the answer and the buffer
-  abbrev pub Answers : Piece → List ℕ → Type 0
+  abbrev pub Answers : Result Piece Refusal → List ℕ → Type 0
   Answers piece after = (piece ≡ cut_at number message offset out) × (after ≡ cut_buffer number message offset out)
 
   -- 1
-  pub short_buffer : length out < PDU_MAX → Answers (Refused BadCall) out
+  pub short_buffer : length out < PDU_MAX → Answers (Err BadCall) out
   unfolding cut_buffer buffer_after outcome cut_at
   short_buffer h = let e = lt-ltb (length out) PDU_MAX h in (rw e, rw e)
 
   -- 11
-  pub long_message : PDU_MAX ≤ length out → MESSAGE_MAX < length message → Answers (Refused OverLimit) out
+  pub long_message : PDU_MAX ≤ length out → MESSAGE_MAX < length message → Answers (Err OverLimit) out
   unfolding cut_buffer buffer_after outcome cut_at
   long_message h k =
       let e = le-ltb (length out) PDU_MAX h in
@@ -44,7 +45,7 @@ module _ (number : ℕ) (message : List ℕ) (offset : ℕ) (out : List ℕ) whe
 
   -- 14
   pub no_start : PDU_MAX ≤ length out → length message ≤ MESSAGE_MAX → is_start number (length message) offset ≡ false
-      → Answers (Refused NoStart) out
+      → Answers (Err NoStart) out
   unfolding cut_buffer buffer_after outcome cut_at
   no_start h k s =
       let e = le-ltb (length out) PDU_MAX h in
@@ -53,7 +54,7 @@ module _ (number : ℕ) (message : List ℕ) (offset : ℕ) (out : List ℕ) whe
 
   -- at a start: the PDU's length and the next offset, and the PDU at the buffer's front
   pub at_start_law : PDU_MAX ≤ length out → length message ≤ MESSAGE_MAX → is_start number (length message) offset ≡ true
-      → Answers (Pdu (length (cut_pdu number message offset)) (block_end number (length message) offset))
+      → Answers (Ok (piece_of (length (cut_pdu number message offset)) (block_end number (length message) offset)))
       (laid out 0 (cut_pdu number message offset))
   unfolding cut_buffer buffer_after outcome cut_at
   at_start_law h k s =
@@ -67,10 +68,10 @@ module _ (number : ℕ) (message : List ℕ) (offset : ℕ) (out : List ℕ) whe
       → length message ≤ MESSAGE_MAX
       → is_start number (length message) offset ≡ true
       → {piece : Piece} {after : List ℕ}
-      → piece ≡ Pdu (length (cut_pdu number message offset)) (block_end number (length message) offset)
+      → piece ≡ piece_of (length (cut_pdu number message offset)) (block_end number (length message) offset)
       → after ≡ laid out 0 (cut_pdu number message offset)
-      → Answers piece after
-  lays h k s e f = let answer = at_start_law h k s in (e ∙ answer.0, f ∙ answer.1)
+      → Answers (Ok piece) after
+  lays h k s e f = let answer = at_start_law h k s in (ap Ok e ∙ answer.0, f ∙ answer.1)
 
   -- what an answer other than a refusal says: which block was cut, and that its PDU stands at the buffer's front
   pub record Given (len next : ℕ) : Type 0 where
@@ -81,17 +82,17 @@ module _ (number : ℕ) (message : List ℕ) (offset : ℕ) (out : List ℕ) whe
     pub ends : next ≡ block_end number (length message) offset
     pub stands : take len (cut_buffer number message offset out) ≡ cut_pdu number message offset
 
-  pub given : (len next : ℕ) → cut_at number message offset out ≡ Pdu len next → Given len next
+  pub given : (len next : ℕ) → cut_at number message offset out ≡ Ok (piece_of len next) → Given len next
   unfolding cut_at
   given len next h = go (ltb (length out) PDU_MAX) (ltb MESSAGE_MAX (length message))
       (is_start number (length message) offset) refl refl refl h
     where
       go : (s t u : Bool) → ltb (length out) PDU_MAX ≡ s → ltb MESSAGE_MAX (length message) ≡ t
           → is_start number (length message) offset ≡ u
-          → cond s (Refused BadCall)
-          (cond t (Refused OverLimit)
-          (cond (not u) (Refused NoStart)
-          (Pdu (length (cut_pdu number message offset)) (block_end number (length message) offset)))) ≡ Pdu len next
+          → cond s (Err BadCall)
+          (cond t (Err OverLimit)
+          (cond (not u) (Err NoStart)
+          (Ok (piece_of (length (cut_pdu number message offset)) (block_end number (length message) offset))))) ≡ Ok (piece_of len next)
           → Given len next
       go true t u p q w h = let z : ◌≡◌ {A = ℕ} 0 1 = cc in absurd (omega arith)
       go false true u p q w h = let z : ◌≡◌ {A = ℕ} 0 1 = cc in absurd (omega arith)
@@ -99,8 +100,9 @@ module _ (number : ℕ) (message : List ℕ) (offset : ℕ) (out : List ℕ) whe
       go false false true p q w h =
           let roomy = ltb-false (length out) PDU_MAX p in
           let short = ltb-false MESSAGE_MAX (length message) q in
-          let l : len ≡ length (cut_pdu number message offset) = cc in
-          let n : next ≡ block_end number (length message) offset = cc in
+          let e : piece_of (length (cut_pdu number message offset)) (block_end number (length message) offset) ≡ piece_of len next = cc in
+          let l : len ≡ length (cut_pdu number message offset) = sym (ap (λ (piece : Piece). piece.len) e) in
+          let n : next ≡ block_end number (length message) offset = sym (ap (λ (piece : Piece). piece.next) e) in
           let pdu = cut_pdu number message offset in
           let fits = cut_fits number message offset in
           record {
@@ -116,9 +118,9 @@ module _ (number : ℕ) (message : List ℕ) (offset : ℕ) (out : List ℕ) whe
 -- ---- the packed answer
 
 -- what cutting can answer
-abbrev pub Possible : Piece → Type 0
-Possible (Pdu len next) = (2 ≤ len) × ((len ≤ PDU_MAX) × (next ≤ MESSAGE_MAX))
-Possible (Refused why) = (refusal_of (refusal_number why) ≡ why) × (refusal_number why < LENGTH_UNIT)
+abbrev pub Possible : Result Piece Refusal → Type 0
+Possible (Ok piece) = (2 ≤ piece.len) × ((piece.len ≤ PDU_MAX) × (piece.next ≤ MESSAGE_MAX))
+Possible (Err why) = (refusal_of (refusal_number why) ≡ why) × (refusal_number why < LENGTH_UNIT)
 
 pub possible : (number : ℕ) (message : List ℕ) (offset : ℕ) (out : List ℕ) → Possible (cut_at number message offset out)
 unfolding cut_at refusal_of LENGTH_UNIT
@@ -142,21 +144,21 @@ possible number message offset out =
     ))))
 
 -- unpacking gives it back
-pub unpacked_packed : (piece : Piece) → Possible piece → unpacked (packed piece) ≡ piece
+pub unpacked_packed : (answer : Result Piece Refusal) → Possible answer → unpacked (packed answer) ≡ answer
 unfolding unpacked packed LENGTH_UNIT MESSAGE_MAX
-unpacked_packed (Pdu len next) h =
-    let e : ltb (len * LENGTH_UNIT + next) LENGTH_UNIT ≡ false =
-    le-ltb (len * LENGTH_UNIT + next) LENGTH_UNIT (omega arith) in
-    let l : (len * LENGTH_UNIT + next) / LENGTH_UNIT ≡ len = omega arith in
-    let n : (len * LENGTH_UNIT + next) % LENGTH_UNIT ≡ next = omega arith in
+unpacked_packed (Ok piece) h =
+    let word = piece.len * LENGTH_UNIT + piece.next in
+    let e : ltb word LENGTH_UNIT ≡ false = le-ltb word LENGTH_UNIT (omega arith) in
+    let l : word / LENGTH_UNIT ≡ piece.len = omega arith in
+    let n : word % LENGTH_UNIT ≡ piece.next = omega arith in
     rw (e, l, n)
-unpacked_packed (Refused why) h = rw (lt-ltb (refusal_number why) LENGTH_UNIT h.1, h.0)
+unpacked_packed (Err why) h = rw (lt-ltb (refusal_number why) LENGTH_UNIT h.1, h.0)
 
 pub unpacked_cut : (number : ℕ) (message : List ℕ) (offset : ℕ) (out : List ℕ)
     → unpacked (packed (cut_at number message offset out)) ≡ cut_at number message offset out
 unpacked_cut number message offset out = unpacked_packed _ (possible number message offset out)
 
 -- a PDU is at least 131,072, and a refusal below that: one can't be mistaken for the other
-pub pdu_above : (len next : ℕ) → Possible (Pdu len next) → 2 * LENGTH_UNIT ≤ packed (Pdu len next)
+pub pdu_above : (piece : Piece) → Possible (Ok piece) → 2 * LENGTH_UNIT ≤ packed (Ok piece)
 unfolding packed LENGTH_UNIT
-pdu_above len next h = omega arith
+pdu_above piece h = omega arith

@@ -1,5 +1,5 @@
 -- Cutting: the paper's section "Cutting", sentence by sentence. `total` is the message's length, `at` an offset.
-use Rattle.std.specs.Prelude.{ℕ, zero, suc, ◌+◌, ◌-◌, ◌*◌, ◌/◌, ◌%◌, min, Bool, false, cond, not, ◌&&◌, ◌||◌, List, [], ◌∷◌, ltb, eqb, length, take, drop}
+use Rattle.std.specs.Prelude.{ℕ, zero, suc, ◌+◌, ◌-◌, ◌*◌, ◌/◌, ◌%◌, min, Bool, false, cond, not, ◌&&◌, ◌||◌, List, [], ◌∷◌, ltb, eqb, length, take, drop, Result, Ok, Err}
 use Rattle.paper.specs.Sizes.{PDU_MAX, MESSAGE_MAX, WHOLE_MAX}
 use Rattle.paper.specs.Refusals.{refusal_number}
 use Rattle.paper.specs.Rows.{refuse, Row, row, Outcome, done, refusal}
@@ -8,7 +8,6 @@ use Rattle.paper.specs.declared.Refusal.TheVariants.{BadCall, OverLimit, NoStart
 use Rattle.numbers.specs.Numbers.{narrowest}
 use Rattle.laying.specs.Laying.{data_bytes, data_first_bytes, buffer_after}
 use Rattle.cutting.specs.declared.Piece.{Piece}
-use Rattle.cutting.specs.declared.Piece.TheVariants.{Pdu, Refused}
 
 -- "a message of at most 1,590 bytes is one Data PDU, at offset 0 only. A longer one
 -- has at offset 0 a Data First [..]; then [..] a Data"
@@ -50,14 +49,18 @@ cut_pdu number message at =
     (data_first_bytes number (length message) (block number message at))
     (data_bytes number (block number message at))
 
+-- what a call answers that isn't refused
+abbrev pub piece_of : ℕ → ℕ → Piece
+piece_of len next = record { len = len; next = next }
+
 -- "Cutting: 1, 11, 14." 1: the buffer is not of its size; 11: "a message over 4,096"; 14: "Any other offset".
 -- "The answer is the PDU's length and the next offset."
-unfoldable pub cut_at : ℕ → List ℕ → ℕ → List ℕ → Piece
+unfoldable pub cut_at : ℕ → List ℕ → ℕ → List ℕ → Result Piece Refusal
 cut_at number message offset out =
-    refuse (Refused BadCall) (ltb (length out) PDU_MAX)
-    (refuse (Refused OverLimit) (ltb MESSAGE_MAX (length message))
-    (refuse (Refused NoStart) (not (is_start number (length message) offset))
-    (Pdu (length (cut_pdu number message offset)) (block_end number (length message) offset))))
+    refuse (Err BadCall) (ltb (length out) PDU_MAX)
+    (refuse (Err OverLimit) (ltb MESSAGE_MAX (length message))
+    (refuse (Err NoStart) (not (is_start number (length message) offset))
+    (Ok (piece_of (length (cut_pdu number message offset)) (block_end number (length message) offset)))))
 
 -- ---- the answer in the paper's terms, and the buffer
 
@@ -66,9 +69,9 @@ pub record Lengths : Type 0 where
   pub pdu : ℕ
   pub next : ℕ
 
-unfoldable pub outcome : Piece → Outcome Lengths
-outcome (Pdu len next) = done (record { pdu = len; next = next })
-outcome (Refused why) = refusal (refusal_number why)
+unfoldable pub outcome : Result Piece Refusal → Outcome Lengths
+outcome (Ok piece) = done (record { pdu = piece.len; next = piece.next })
+outcome (Err why) = refusal (refusal_number why)
 
 unfoldable pub cut_buffer : ℕ → List ℕ → ℕ → List ℕ → List ℕ
 cut_buffer number message offset out =
@@ -96,9 +99,9 @@ cutting_rows number message offset out =
 unfoldable pub LENGTH_UNIT : ℕ
 LENGTH_UNIT = 65536
 
-unfoldable pub packed : Piece → ℕ
-packed (Pdu len next) = len * LENGTH_UNIT + next
-packed (Refused why) = refusal_number why
+unfoldable pub packed : Result Piece Refusal → ℕ
+packed (Ok piece) = piece.len * LENGTH_UNIT + piece.next
+packed (Err why) = refusal_number why
 
 -- cutting's three refusals by their numbers
 unfoldable pub refusal_of : ℕ → Refusal
@@ -107,5 +110,5 @@ refusal_of n =
     (cond (eqb n (refusal_number OverLimit)) OverLimit NoStart)
 
 -- how the host reads it
-unfoldable pub unpacked : ℕ → Piece
-unpacked n = cond (ltb n LENGTH_UNIT) (Refused (refusal_of n)) (Pdu (n / LENGTH_UNIT) (n % LENGTH_UNIT))
+unfoldable pub unpacked : ℕ → Result Piece Refusal
+unpacked n = cond (ltb n LENGTH_UNIT) (Err (refusal_of n)) (Ok (piece_of (n / LENGTH_UNIT) (n % LENGTH_UNIT)))

@@ -10,98 +10,110 @@
 ghost use Rattle.std.specs.Prelude.{◌≡◌, ◌≤◌, length};
 ghost use Rattle.paper.specs.Sizes.{MESSAGE_MAX};
 ghost use Rattle.lists.specs.Bytes.{laid};
-ghost use Rattle.cutting.specs.Cutting.{is_first, header_len, block_end, is_start, cut_pdu, cut_at, cut_buffer, packed};
+ghost use Rattle.cutting.specs.Cutting.{is_first, header_len, block_end, is_start, piece_of, cut_pdu, cut_at, cut_buffer, packed};
 
 use paper::{MESSAGE_MAX, PDU_MAX, Refusal, WHOLE_MAX};
 
-// What cutting answers.
+// What cutting gives: the PDU's length, and the offset of the next block: the message's length after the last one.
 #[derive(Clone, Copy)]
-pub enum Piece {
-    // The PDU's length, and the offset of the next block: the message's length after the last one.
-    Pdu { len: usize, next: usize },
-    Refused(Refusal),
+pub struct Piece {
+    pub len: usize,
+    pub next: usize,
 }
 
-// Whether the block at an offset is a Data First: at the front of a message that is too long for one Data.
-fn is_first(total: usize, at: usize) -> bool
-    ensures { result ≡ is_first total at }
-{
-    if total <= WHOLE_MAX {
-        return false;
+// A message that may be cut: its channel's number, and how many bytes it has.
+#[derive(Clone, Copy)]
+struct Message {
+    number: u32,
+    total: usize,
+    ghost short: { total ≤ MESSAGE_MAX },
+}
+
+impl Message {
+    // Whether the block at an offset is a Data First: at the front of a message that is too long for one Data.
+    #[tactic(auto, unfolding(crate::specs::Cutting::is_first, paper::specs::Sizes::WHOLE_MAX))]
+    fn is_first(self, at: usize) -> bool
+        ensures { result ≡ is_first self.total at }
+    {
+        WHOLE_MAX < self.total && at == 0
     }
-    at == 0
-}
 
-// How long the header is of the PDU at an offset: first byte and number, and the Length in a Data First.
-fn header_len(number: u32, total: usize, at: usize) -> usize
-    requires { total ≤ MESSAGE_MAX }
-    ensures { result ≡ header_len number total at }
-{
-    let header = 1 + numbers::narrow(number);
-    if is_first(total, at) {
-        return header + numbers::narrow(total as u32);
-    }
-    header
-}
-
-// Where the block at an offset ends: it has the rest of the message, or what its PDU has room for.
-fn block_end(number: u32, total: usize, at: usize) -> usize
-    requires { (total ≤ MESSAGE_MAX) × (at ≤ total) }
-    ensures { result ≡ block_end number total at }
-{
-    let room = PDU_MAX - header_len(number, total, at);
-    at + lists::lesser(total - at, room)
-}
-
-// Whether a block starts at the offset: follows the blocks from 0 on, each starting just where the one before ended.
-fn is_start(number: u32, total: usize, offset: usize) -> bool
-    requires { total ≤ MESSAGE_MAX }
-    ensures { result ≡ is_start number total offset }
-{
-    let mut at = 0;
-    while at < offset {
-        let end = block_end(number, total, at);
-        if total <= end {
-            return false;
+    // How long the header is of the PDU at an offset: first byte and number, and the Length in a Data First.
+    #[tactic(auto, using(numbers::proofs::Widths::narrowest_le), unfolding(crate::specs::Cutting::header_len, paper::specs::Sizes::MESSAGE_MAX))]
+    fn header_len(self, at: usize) -> usize
+        ensures { result ≡ header_len self.number self.total at }
+    {
+        let header = 1 + numbers::narrow(self.number);
+        if self.is_first(at) {
+            return header + numbers::narrow(self.total as u32);
         }
-        at = end;
+        header
     }
-    at == offset
-}
 
-// Lays the PDU of the block that starts at an offset.
-fn lay(number: u32, message: &[u8], at: usize, out: &mut [u8]) -> Piece
-    requires { (length message.now ≤ MESSAGE_MAX) × (at ≤ length message.now) }
-    ensures value { result ≡ Piece.Pdu (length (cut_pdu number message.now at))
-        (block_end number (length message.now) at) }
-    ensures out_after { out.new ≡ laid out.old 0 (cut_pdu number message.now at) }
-{
-    let total = message.len();
-    let next = block_end(number, total, at);
-    let block = &message[at..next];
-    if is_first(total, at) {
-        let len = laying::data_first(out, number, total as u32, block);
-        return Piece::Pdu { len, next };
+    // Where the block at an offset ends: it has the rest of the message, or what its PDU has room for.
+    #[tactic(auto, using(crate::proofs::Blocks::header_le), unfolding(crate::specs::Cutting::block_end, crate::specs::Cutting::block_len, paper::specs::Sizes::PDU_MAX, paper::specs::Sizes::MESSAGE_MAX))]
+    fn block_end(self, at: usize) -> usize
+        requires { at ≤ self.total }
+        ensures { result ≡ block_end self.number self.total at }
+    {
+        let room = PDU_MAX - self.header_len(at);
+        at + room.min(self.total - at)
     }
-    let len = laying::data(out, number, block);
-    Piece::Pdu { len, next }
+
+    // Whether a block starts at the offset: follows the blocks from 0 on, each starting just where the one before ended.
+    // A turn goes as far as its block, so it is no `for` over a range.
+    fn is_start(self, offset: usize) -> bool
+        ensures { result ≡ is_start self.number self.total offset }
+    {
+        let mut at = 0;
+        while at < offset {
+            let end = self.block_end(at);
+            if self.total <= end {
+                return false;
+            }
+            at = end;
+        }
+        at == offset
+    }
+
+    // Lays the PDU of the block that starts at an offset.
+    #[tactic(auto, using(crate::proofs::Blocks::end_from_law, crate::proofs::Blocks::end_within), unfolding(paper::specs::Sizes::MESSAGE_MAX))]
+    fn lay(self, bytes: &[u8], at: usize, out: &mut [u8]) -> Piece
+        requires { (length bytes.now ≡ self.total) × (at ≤ self.total) }
+        ensures value { result ≡ piece_of (length (cut_pdu self.number bytes.now at)) (block_end self.number (length bytes.now) at) }
+        ensures out_after { out.new ≡ laid out.old 0 (cut_pdu self.number bytes.now at) }
+    {
+        let next = self.block_end(at);
+        let block = &bytes[at..next];
+        if self.is_first(at) {
+            let len = laying::data_first(out, self.number, self.total as u32, block);
+            return Piece { len, next };
+        }
+        let len = laying::data(out, self.number, block);
+        Piece { len, next }
+    }
 }
 
 // Cuts the block that starts at the offset off the message, and writes its PDU.
-pub fn cut(number: u32, message: &[u8], offset: usize, out: &mut [u8]) -> Piece
+#[tactic(auto, unfolding(paper::specs::Sizes::MESSAGE_MAX))]
+pub fn cut(number: u32, message: &[u8], offset: usize, out: &mut [u8]) -> Result<Piece, Refusal>
     ensures value { result ≡ cut_at number message.now offset out.old }
     ensures out_after { out.new ≡ cut_buffer number message.now offset out.old }
 {
     if out.len() < PDU_MAX {
-        return Piece::Refused(Refusal::BadCall);
+        return Err(Refusal::BadCall);
     }
     if MESSAGE_MAX < message.len() {
-        return Piece::Refused(Refusal::OverLimit);
+        return Err(Refusal::OverLimit);
     }
-    if !is_start(number, message.len(), offset) {
-        return Piece::Refused(Refusal::NoStart);
+    let whole = Message {
+        number,
+        total: message.len(),
+    };
+    if !whole.is_start(offset) {
+        return Err(Refusal::NoStart);
     }
-    lay(number, message, offset, out)
+    Ok(whole.lay(message, offset, out))
 }
 
 // What one byte of a PDU's length counts in the number that C gets: more than any next offset.
@@ -113,9 +125,8 @@ pub extern "C" fn dvc_cut(number: u32, message: &[u8], offset: usize, out: &mut 
     ensures value { result ≡ packed (cut_at number message.now offset out.old) }
     ensures out_after { out.new ≡ cut_buffer number message.now offset out.old }
 {
-    let piece = cut(number, message, offset, out);
-    match piece {
-        Piece::Pdu { len, next } => len as u32 * LENGTH_UNIT + next as u32,
-        Piece::Refused(why) => paper::refusal_number(why) as u32,
+    match cut(number, message, offset, out) {
+        Ok(piece) => piece.len as u32 * LENGTH_UNIT + piece.next as u32,
+        Err(why) => paper::refusal_number(why) as u32,
     }
 }

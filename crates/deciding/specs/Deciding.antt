@@ -1,9 +1,8 @@
 -- What a matter comes to: refusal 7, the Capabilities request, and the rules of one channel.
-use Rattle.std.specs.Prelude.{ℕ, min, Bool, true, cond, ◌&&◌}
+use Rattle.std.specs.Prelude.{ℕ, min, Bool, true, cond, ◌&&◌, None}
 use Rattle.paper.specs.declared.Refusal.{Refusal}
 use Rattle.paper.specs.declared.Refusal.TheVariants.{WrongTime}
 use Rattle.channel.specs.declared.Record.{Record}
-use Rattle.channel.specs.declared.Concern.TheVariants.{NoChannel}
 use Rattle.channel.specs.declared.Answer.TheVariants.{Ready, Refused}
 use Rattle.channel.specs.declared.Change.TheVariants.{Stays}
 use Rattle.channel.specs.declared.Part.TheVariants.{Keeps}
@@ -41,7 +40,7 @@ taking ready level t = record { ready = ready; level = level; turn = t }
 
 -- a refusal that concerns no channel, and changes nothing
 unfoldable pub refusing : Bool → ℕ → Refusal → Decided
-refusing ready level why = taking ready level (answering (Refused why NoChannel))
+refusing ready level why = taking ready level (answering (Refused why None))
 
 -- "Capabilities request: ready."
 unfoldable pub readying : ℕ → Decided

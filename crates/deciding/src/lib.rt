@@ -7,7 +7,7 @@
 ghost use Rattle.std.specs.Prelude.{◌≡◌};
 ghost use Rattle.deciding.specs.Deciding.{level_for, refusing, readying, decided_of};
 
-use channel::{Answer, Ask, Change, Concern, OUR_VERSION, Part, Record, Reply, Turn};
+use channel::{Answer, Ask, Change, OUR_VERSION, Part, Record, Reply, Turn};
 use paper::Refusal;
 
 // What is to be decided.
@@ -33,7 +33,7 @@ pub struct Decided {
 fn refuses(ready: bool, level: u8, why: Refusal) -> Decided
     ensures { result ≡ refusing ready level why }
 {
-    let concern = Concern::NoChannel;
+    let concern = None;
     let turn = channel::answers(Answer::Refused { why, concern });
     Decided { ready, level, turn }
 }
@@ -42,10 +42,7 @@ fn refuses(ready: bool, level: u8, why: Refusal) -> Decided
 fn level_for(version: u16) -> u8
     ensures { result ≡ level_for version }
 {
-    if version < OUR_VERSION {
-        return version as u8;
-    }
-    OUR_VERSION as u8
+    version.min(OUR_VERSION) as u8
 }
 
 // A Capabilities request makes the connection ready.

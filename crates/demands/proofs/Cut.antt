@@ -2,6 +2,7 @@
 -- By induction on the calls of `cut`: before each the channel holds what the calls before it cut. The run may hold any events of other
 -- channels; it starts in any sound, ready state.
 -- Assumes nothing.
+use Rattle.std.specs.Prelude.{None, Some, Ok, Result}
 use mathlib.Core.Path.{◌≡◌, refl, sym, ap, ◌∙◌}
 use mathlib.Core.Logic.{⊎_elim}
 use mathlib.Core.Bool.{Bool, true, false, not, cond}
@@ -24,7 +25,6 @@ use Rattle.channel.specs.declared.Stage.{Stage}
 use Rattle.channel.specs.declared.Stage.TheVariants.{Idle, Joining, Spoiled}
 use Rattle.channel.specs.declared.Offer.TheVariants.{First, More}
 use Rattle.paper.specs.declared.Refusal.TheVariants.{WrongTime}
-use Rattle.channel.specs.declared.Concern.TheVariants.{NoChannel}
 use Rattle.channel.specs.declared.Answer.TheVariants.{Held, Message, Refused}
 use Rattle.channel.specs.declared.Took.{Took}
 use Rattle.channel.specs.declared.Took.TheVariants.{Holds, Finishes}
@@ -33,9 +33,9 @@ use Rattle.channel.specs.Channel.{Bring, View, Open, Room, Did, rebuilt, stage_a
 use Rattle.connection.specs.States.{State, view, room_in, Steady}
 use Rattle.client.specs.Events.{Event, Unreadable, Capabilities, Of, is_of}
 use Rattle.client.specs.Client.{stepped}
-use Rattle.cutting.specs.Cutting.{is_first, is_start, block_len, block_end, block, cut_pdu, cut_at, cut_buffer}
+use Rattle.paper.specs.declared.Refusal.{Refusal}
+use Rattle.cutting.specs.Cutting.{is_first, is_start, block_len, block_end, block, cut_pdu, cut_at, cut_buffer, piece_of}
 use Rattle.cutting.specs.declared.Piece.{Piece}
-use Rattle.cutting.specs.declared.Piece.TheVariants.{Pdu}
 use Rattle.cutting.proofs.Answers.{given, at_start_law, unpacked_cut}
 use Rattle.cutting.proofs.Starts.{start_zero, start_next, start_within}
 use Rattle.cutting.proofs.Blocks.{end_is, end_from_law, end_within, end_after_law, length_block, cut_first, cut_data, cut_fits, whole_end, long_first, later_data}
@@ -66,8 +66,8 @@ next_in f v (Capabilities version) = v
 next_in f v (Of n a) = (act f.level n f.room v a).view
 
 abbrev pub told_in : Around → View → Event → Told
-told_in f v (Unreadable why) = record { answer = Refused why NoChannel; reply = []; message = [] }
-told_in f v (Capabilities version) = record { answer = Refused WrongTime NoChannel; reply = []; message = [] }
+told_in f v (Unreadable why) = record { answer = Refused why None; reply = []; message = [] }
+told_in f v (Capabilities version) = record { answer = Refused WrongTime None; reply = []; message = [] }
 told_in f v (Of n a) = told_by (act f.level n f.room v a)
 
 own_in_law :
@@ -346,22 +346,22 @@ cut_and_joined n m lent cs small by st g r part v idle xs e =
 -- ---- none is refused
 
 -- calls from an offset on
-record Some (n : ℕ) (m : List ℕ) (lent : ℕ → List ℕ) (at : ℕ) : Type 0 where
+record CallsFrom (n : ℕ) (m : List ℕ) (lent : ℕ → List ℕ) (at : ℕ) : Type 0 where
   pub cuts : List Cut
   pub are_cut : Cuts (λ o. cut_at n m o (lent o)) (λ o. cut_buffer n m o (lent o)) (length m) at cuts
 
 module _ (n : ℕ) (m : List ℕ) (short : length m ≤ MESSAGE_MAX) (lent : ℕ → List ℕ) (room : (at : ℕ) → PDU_MAX ≤ length (lent at)) where
-  go : (more at : ℕ) → length m < at + more → is_start n (length m) at ≡ true → Some n m lent at
+  go : (more at : ℕ) → length m < at + more → is_start n (length m) at ≡ true → CallsFrom n m lent at
   go zero at fuel s = let w = start_within n (length m) at s in absurd (omega arith)
   go (suc more) at fuel s = by (ltb (block_end n (length m) at) (length m)) refl (λ f t. go more (block_end n (length m) at) f t)
     where
-      called : cut_at n m at (lent at) ≡ Pdu (length (cut_pdu n m at)) (block_end n (length m) at)
+      called : cut_at n m at (lent at) ≡ Ok (piece_of (length (cut_pdu n m at)) (block_end n (length m) at))
       called = sym (at_start_law n m at (lent at) (room at) short s).0
 
       by :
           (t : Bool) → ltb (block_end n (length m) at) (length m) ≡ t
-          → (length m < block_end n (length m) at + more → is_start n (length m) (block_end n (length m) at) ≡ true → Some n m lent (block_end n (length m) at))
-          → Some n m lent at
+          → (length m < block_end n (length m) at + more → is_start n (length m) (block_end n (length m) at) ≡ true → CallsFrom n m lent (block_end n (length m) at))
+          → CallsFrom n m lent at
       by true e later =
           let below = ltb-true (block_end n (length m) at) (length m) e in
           let onward = end_from_law n (length m) at in
@@ -376,7 +376,7 @@ module _ (n : ℕ) (m : List ℕ) (short : length m ≤ MESSAGE_MAX) (lent : ℕ
 
 -- ---- the same of `dvc_cut`: its number says what `cut` answers
 
-module _ {one two : ℕ → Piece} (same : (at : ℕ) → one at ≡ two at) (buffer : ℕ → List ℕ) (total : ℕ) where
+module _ {one two : ℕ → Result Piece Refusal} (same : (at : ℕ) → one at ≡ two at) (buffer : ℕ → List ℕ) (total : ℕ) where
   same_calls : (at : ℕ) (cs : List Cut) → Cuts one buffer total at cs → Cuts two buffer total at cs
   same_calls at cs (last_one len next e end) = last_one len next (sym (same at) ∙ e) end
   same_calls at cs (one_more len next rest e below k) = one_more len next rest (sym (same at) ∙ e) below (same_calls next rest k)

@@ -1,6 +1,7 @@
 -- No half message: a garbled block leaves an open channel dead, and a dead channel is told nothing but refusals until it is closed,
 -- and hands up nothing until it is opened again.
 -- Assumes nothing.
+use Rattle.std.specs.Prelude.{None}
 use mathlib.Core.Path.{◌≡◌, refl, ap, ◌∙◌}
 use mathlib.Core.Bool.{Bool, true, false, ◌&&◌}
 use mathlib.Core.List.{List, [], ◌∷◌}
@@ -16,7 +17,6 @@ use Rattle.reading.specs.Grammar.{InWidth, carrying}
 use Rattle.reading.proofs.Garbled.{cut_off}
 use Rattle.channel.specs.declared.Stage.TheVariants.{Spoiled}
 use Rattle.channel.specs.declared.Record.{Record}
-use Rattle.channel.specs.declared.Concern.TheVariants.{NoChannel}
 use Rattle.channel.specs.declared.Answer.TheVariants.{Refused}
 use Rattle.channel.specs.Channel.{Act, BadCreate, Create, Bring, Garbled, Closing, LocalClose, View, Open, restaged, act}
 use Rattle.connection.specs.States.{State, view, room_in}
@@ -126,7 +126,7 @@ module _ (l : ℕ) (st : State) (g : Running l st) (c : Call) (n : ℕ) (why : R
       told_with_law l (after st c) (running_call l st c g) n xs
       ∙ ap (λ (j : Join). told_with j (own_events n xs) (full_flags n (after st c) xs)) (ap join_of spoiled ∙ is_dead)
 
-  garbled_told : told_by (ruled n st (Garbled why)) ≡ tells_none (Refused why NoChannel)
+  garbled_told : told_by (ruled n st (Garbled why)) ≡ tells_none (Refused why None)
   unfolding act
   garbled_told = ap (λ (w : View). told_by (act st.table.level n (room_in st) w (Garbled why))) v
 

@@ -1,5 +1,6 @@
 -- One channel's rules join as the joining by itself does: each event brings the same, and the stage is where the joining stands.
 -- Assumes nothing.
+use Rattle.std.specs.Prelude.{Option, None, Some}
 use mathlib.Core.Path.{◌≡◌, refl, ap, ◌∙◌}
 use mathlib.Core.Bool.{Bool, true, false, cond}
 use mathlib.Core.List.{List, [], ◌∷◌, ◌++◌, append_assoc}
@@ -17,8 +18,6 @@ use Rattle.lists.specs.Bytes.{laid}
 use Rattle.lists.proofs.Cases.{choice, lt_or_le}
 use Rattle.lists.proofs.Laid.{laid_eq, length_laid, length_zeros, front}
 use Rattle.reading.specs.Garbled.{carries}
-use Rattle.reading.specs.declared.Carried.{Carried}
-use Rattle.reading.specs.declared.Carried.TheVariants.{NoNumber, Number}
 use Rattle.reading.specs.Reading.{read_pdu}
 use Rattle.reading.specs.Said.{bytes_at}
 use Rattle.reading.specs.declared.Extent.{Extent}
@@ -266,10 +265,10 @@ create_block : (n : ℕ) (list name : List ℕ) (pri : ℕ) → FineBlock (Of n 
 unfolding create_act
 create_block n list name pri = choice (λ (a : Act). FineBlock (Of n a)) (good_list list) (λ e. tt) (λ e. tt)
 
-unread_block : (why : Refusal) (carried : Carried) → FineBlock (unread why carried)
+unread_block : (why : Refusal) (carried : Option ℕ) → FineBlock (unread why carried)
 unfolding unread
-unread_block why NoNumber = tt
-unread_block why (Number n) = tt
+unread_block why None = tt
+unread_block why (Some n) = tt
 
 short_blocks : (list pdu : List ℕ) → length pdu ≤ PDU_MAX → (p : Pdu) → Placed pdu p → FineBlock (event_of list pdu p)
 unfolding event_of

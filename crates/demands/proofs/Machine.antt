@@ -1,5 +1,6 @@
 -- A run of calls shows each channel as its own machine: the trace theorem's premises.
 -- Assumes nothing.
+use Rattle.std.specs.Prelude.{None}
 use mathlib.Core.Path.{◌≡◌, refl, sym, ap, ◌∙◌}
 use mathlib.Core.Bool.{Bool, true, false, not, ◌&&◌}
 use mathlib.Core.List.{List, []}
@@ -38,7 +39,6 @@ use Rattle.client.proofs.Calls.{passes}
 use Rattle.steps.specs.States.{FineEvent, ruled, Sane}
 use Rattle.steps.proofs.Channels.{step_answer, step_reply, step_state, step_own, step_other, step_steady, step_caps}
 use Rattle.steps.proofs.Calm.{sane_steady, steady_sane, calm_step, fine_pdu}
-use Rattle.channel.specs.declared.Concern.TheVariants.{NoChannel}
 use Rattle.demands.proofs.Traces.{Framed}
 use Rattle.demands.specs.Runs.{Entry, receives, closes, Call, gives, after, first_of, handed_up, Told, told, event_in, is_event_of, full_table, asks_room, event_meets_full, meets_full, Running}
 
@@ -248,8 +248,8 @@ chan_next l full v (Capabilities version) = v
 chan_next l full v (Of n a) = (act l n (room_flag full) v a).view
 
 abbrev pub chan_out : ℕ → Bool → View → Event → Told
-chan_out l full v (Unreadable why) = record { answer = Refused why NoChannel; reply = []; message = [] }
-chan_out l full v (Capabilities version) = record { answer = Refused WrongTime NoChannel; reply = []; message = [] }
+chan_out l full v (Unreadable why) = record { answer = Refused why None; reply = []; message = [] }
+chan_out l full v (Capabilities version) = record { answer = Refused WrongTime None; reply = []; message = [] }
 chan_out l full v (Of n a) = told_by (act l n (room_flag full) v a)
 
 abbrev pub read_call : Call → Event

@@ -1,6 +1,7 @@
 -- Our manager has demand 2: from every Start on, every call of every run is told what it should be. What is kept along a run is `Seen`:
 -- the state is calm, ready as the events make it, and each channel stands where its joining does.
 -- Assumes nothing.
+use Rattle.std.specs.Prelude.{None}
 use Prim.Native.Nat.{ℕ, ◌≤◌}
 use native.Mathlib.Omega.{arith}
 use mathlib.Core.Path.{◌≡◌, refl, sym, ap, ◌∙◌}
@@ -17,7 +18,6 @@ use Rattle.lists.specs.Bytes.{zeros}
 use Rattle.lists.specs.Places.{place}
 use Rattle.lists.proofs.Laid.{front}
 use Rattle.laying.proofs.Lengths.{length_caps_response}
-use Rattle.channel.specs.declared.Concern.TheVariants.{NoChannel}
 use Rattle.channel.specs.declared.Answer.TheVariants.{Refused}
 use Rattle.channel.specs.Channel.{Act, Shut, Did, act}
 use Rattle.table.specs.Table.{empty_table, number_place, record_at, holds}
@@ -54,7 +54,7 @@ stray_told st c h s e fits none =
 
 refused_told :
     (st : State) (c : Call) → Sane st → (why : Refusal) → stepped st (event_in c.asked) ≡ refused st why
-    → told st c ≡ tells_none (Refused why NoChannel)
+    → told st c ≡ tells_none (Refused why None)
 unfolding handed_up REPLY_MIN
 refused_told st c h why e = stray_told st c h (refused st why) e (omega arith) (λ t. refl)
 
@@ -177,13 +177,13 @@ module _ (st : State) (s : Sight) (g : Seen st s) where
   -- what our call tells
   caps_told :
       (c : Call) (version : ℕ) → event_in c.asked ≡ Capabilities version → (t : Bool) → st.table.ready ≡ t
-      → told st c ≡ cond t (tells_none (Refused WrongTime NoChannel)) (ready_told version)
+      → told st c ≡ cond t (tells_none (Refused WrongTime None)) (ready_told version)
   caps_told c version e true r = refused_told st c g.calm.sane WrongTime (ap (stepped st) e ∙ too_late st version r)
   caps_told c version e false r = ready_told_law st c g.calm.sane version (ap (stepped st) e ∙ made_ready st version r)
 
   of_told :
       (c : Call) (n : ℕ) (a : Act) → FineAct a → FineBlock (Of n a) → event_in c.asked ≡ Of n a → (t : Bool) → st.table.ready ≡ t
-      → told st c ≡ cond t (told_if (event_meets_full st (Of n a)) n (s.stand n) a) (tells_none (Refused (too_soon a) NoChannel))
+      → told st c ≡ cond t (told_if (event_meets_full st (Of n a)) n (s.stand n) a) (tells_none (Refused (too_soon a) None))
   of_told c n a z b e true r =
       own_told st c (sane_steady st g.calm.sane r) n a z e ∙ ap told_by (ruled_flag st.table.level st (running r) n a)
       ∙ act_told (event_meets_full st (Of n a)) st.table.level n (view n st) a (sane_view st g.calm.sane n) b

@@ -2,6 +2,7 @@
 -- buffer
 -- is computed.
 -- Assumes nothing.
+use Rattle.std.specs.Prelude.{Ok}
 use Prim.Native.Nat.{ℕ, ◌-◌, ◌/◌, ◌≤◌, ◌<◌}
 use mathlib.Core.Path.{◌≡◌, refl, sym, ap, ◌∙◌}
 use mathlib.Core.List.{List, [], ◌∷◌}
@@ -15,8 +16,7 @@ use Rattle.numbers.specs.Numbers.{little, bytes_of, value_of, value_at, width_of
 use Rattle.reading.specs.Reading.{closing, after_number, bad_length_width, numbered, by_command, read_pdu}
 use Rattle.laying.specs.Laying.{head_of, data_first_head, data_first_bytes, data_bytes}
 use Rattle.listeners.specs.Listeners.{names, ended, none_empty, same_bytes, is_one_of, all_names, good_list, is_listed}
-use Rattle.cutting.specs.Cutting.{is_first, header_len, block_len, block_end, meets, is_start, block, cut_pdu, cut_at, cut_buffer}
-use Rattle.cutting.specs.declared.Piece.TheVariants.{Pdu}
+use Rattle.cutting.specs.Cutting.{is_first, header_len, block_len, block_end, meets, is_start, block, cut_pdu, cut_at, cut_buffer, piece_of}
 use Rattle.cutting.proofs.Answers.{given}
 use Rattle.channel.specs.Stages.{added, took_first, took}
 use Rattle.channel.specs.Channel.{act}
@@ -34,7 +34,7 @@ module _ (n : ℕ) (m : List ℕ) where
 
   -- a call's block, by its PDU's Cmd and the lengths that it answered
   front_block :
-      (at len next cmd : ℕ) → cut_at n m at (zeros PDU_MAX) ≡ Pdu len next → get_or (cut_pdu n m at) 0 0 / 16 ≡ cmd
+      (at len next cmd : ℕ) → cut_at n m at (zeros PDU_MAX) ≡ Ok (piece_of len next) → get_or (cut_pdu n m at) 0 0 / 16 ≡ cmd
       → (cs : List Cut) (bs : List Block) → blocks_from next cs ≡ bs
       → blocks_from at (cut_of (cut_buffer n m at (zeros PDU_MAX)) len next ∷ cs) ≡ block_of cmd at (next - at) len ∷ bs
   front_block at len next cmd e c cs bs r =
@@ -45,12 +45,12 @@ module _ (n : ℕ) (m : List ℕ) where
       rw (first, long, r)
 
   last :
-      (at len next cmd : ℕ) → cut_at n m at (zeros PDU_MAX) ≡ Pdu len next → get_or (cut_pdu n m at) 0 0 / 16 ≡ cmd → length m ≤ next
+      (at len next cmd : ℕ) → cut_at n m at (zeros PDU_MAX) ≡ Ok (piece_of len next) → get_or (cut_pdu n m at) 0 0 / 16 ≡ cmd → length m ≤ next
       → CutFrom at (block_of cmd at (next - at) len ∷ [])
   last at len next cmd e c end = record { cuts = _; are_cut = last_one len next e end; as_blocks = front_block at len next cmd e c [] [] refl }
 
   more :
-      (at len next cmd : ℕ) (bs : List Block) → cut_at n m at (zeros PDU_MAX) ≡ Pdu len next → get_or (cut_pdu n m at) 0 0 / 16 ≡ cmd
+      (at len next cmd : ℕ) (bs : List Block) → cut_at n m at (zeros PDU_MAX) ≡ Ok (piece_of len next) → get_or (cut_pdu n m at) 0 0 / 16 ≡ cmd
       → next < length m → CutFrom next bs → CutFrom at (block_of cmd at (next - at) len ∷ bs)
   more at len next cmd bs e c below r =
       record { cuts = _; are_cut = one_more len next r.cuts e below r.are_cut; as_blocks = front_block at len next cmd e c r.cuts bs r.as_blocks }

@@ -1,6 +1,7 @@
 -- Strangers' channels. A state that calls reach from Start is a state of a run once it is ready; one list makes the same events of the
 -- same PDUs; and what a channel is told, and how it is left, are functions of its own events and their flags (proofs/Orders).
 -- Assumes nothing.
+use Rattle.std.specs.Prelude.{Option, None, Some}
 use mathlib.Core.Path.{◌≡◌, refl, sym, ap, ◌∙◌}
 use mathlib.Core.Bool.{Bool, true, false, not, cond}
 use mathlib.Core.Logic.{⊎_elim}
@@ -16,8 +17,6 @@ use Rattle.lists.proofs.Cases.{true_not_false, both, lt_or_le}
 use Rattle.reading.specs.Reading.{read_pdu}
 use Rattle.reading.specs.Said.{bytes_at}
 use Rattle.reading.specs.Garbled.{carries}
-use Rattle.reading.specs.declared.Carried.{Carried}
-use Rattle.reading.specs.declared.Carried.TheVariants.{NoNumber, Number}
 use Rattle.reading.specs.declared.Pdu.{Pdu}
 use Rattle.reading.specs.declared.Pdu.TheVariants.{CreateRequest, CreateResponse, DataFirst, Data, Close, CapsRequest}
 use Rattle.reading.specs.declared.Pdu.TheVariants.{CapsResponse, Refused}
@@ -106,10 +105,10 @@ same_in_both list n st xs ys two f =
 
 -- ---- whose event a call is, by the PDU's own words
 
-unread_own : (n : ℕ) (pdu : List ℕ) (why : Refusal) (c : Carried) → carries pdu ≡ c → is_of n (unread why c) ≡ true → OwnEvent n (pdu_received pdu)
+unread_own : (n : ℕ) (pdu : List ℕ) (why : Refusal) (c : Option ℕ) → carries pdu ≡ c → is_of n (unread why c) ≡ true → OwnEvent n (pdu_received pdu)
 unfolding unread
-unread_own n pdu why NoNumber e h = absurd (true_not_false (sym h))
-unread_own n pdu why (Number m) e h = its_number_whole (e ∙ ap Number (eqb-true m n h))
+unread_own n pdu why None e h = absurd (true_not_false (sym h))
+unread_own n pdu why (Some m) e h = its_number_whole (e ∙ ap Some (eqb-true m n h))
 
 read_own : (n : ℕ) (list pdu : List ℕ) (p : Pdu) → read_pdu true pdu ≡ p → is_of n (event_of list pdu p) ≡ true → OwnEvent n (pdu_received pdu)
 unfolding event_of
@@ -221,10 +220,10 @@ not_asked : {A : Type 0} (st : State) (n : ℕ) (a : Act) → is_create a ≡ fa
 unfolding event_meets_full
 not_asked st n a c h = absurd (asks_create (view n st) a c (both (asks_room (view n st) a) (full_table st) h).0)
 
-unread_asks : {A : Type 0} (st : State) (why : Refusal) (c : Carried) → event_meets_full st (unread why c) ≡ true → A
+unread_asks : {A : Type 0} (st : State) (why : Refusal) (c : Option ℕ) → event_meets_full st (unread why c) ≡ true → A
 unfolding unread event_meets_full
-unread_asks st why NoNumber h = absurd (true_not_false (sym h))
-unread_asks st why (Number m) h = not_asked st m (Garbled why) refl h
+unread_asks st why None h = absurd (true_not_false (sym h))
+unread_asks st why (Some m) h = not_asked st m (Garbled why) refl h
 
 module _ (st : State) (s : Sane st) where
   read_full :

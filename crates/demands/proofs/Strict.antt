@@ -1,5 +1,6 @@
 -- What we write, read back by either reading; the cutter's PDUs, read strictly; and one byte string for each meaning.
 -- Assumes nothing.
+use Rattle.std.specs.Prelude.{Ok}
 use Prim.Native.Nat.{ℕ, ◌<◌}
 use native.Mathlib.Omega.{arith}
 use mathlib.Core.Path.{◌≡◌, refl, ap, ◌∙◌}
@@ -15,8 +16,7 @@ use Rattle.reading.specs.Tight.{strict_as}
 use Rattle.reading.proofs.Strict as strict
 use Rattle.laying.proofs.Encoded.{data_encoded, data_first_encoded, data_tight, data_first_tight}
 use Rattle.writing.proofs.SameValues as same-values
-use Rattle.cutting.specs.declared.Piece.TheVariants.{Pdu}
-use Rattle.cutting.specs.Cutting.{is_first, block, cut_pdu, cut_at, cut_buffer}
+use Rattle.cutting.specs.Cutting.{is_first, block, cut_pdu, cut_at, cut_buffer, piece_of}
 use Rattle.cutting.proofs.Answers.{given}
 use Rattle.cutting.proofs.Blocks.{cut_first, cut_data, cut_fits}
 use Rattle.demands.specs.Demand2.{WrittenIsRead}
@@ -51,7 +51,7 @@ module _ (fromServer : Bool) (n : ℕ) (small : n < NUMBERS) (m : List ℕ) (at 
       (cut_data n m at e ∙ data_tight n (block n m at)) (cut_fits n m at)
 
   pub cut_is_strict :
-      (out : List ℕ) (len next : ℕ) → cut_at n m at out ≡ Pdu len next
+      (out : List ℕ) (len next : ℕ) → cut_at n m at out ≡ Ok (piece_of len next)
       → strict_as fromServer (take len (cut_buffer n m at out)) ≡ values (cut_value n m at)
   unfolding MESSAGE_MAX
   cut_is_strict out len next h =

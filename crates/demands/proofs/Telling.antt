@@ -1,6 +1,7 @@
 -- One channel's rules tell what `told_with` says: the steps by where its joining stands, with each event's own full-table flag, and each
 -- message once. So does a run of its own events.
 -- Assumes nothing.
+use Rattle.std.specs.Prelude.{None, Some}
 use Prim.Native.Nat.{ℕ, ◌+◌, ◌-◌, ◌≤◌}
 use mathlib.Core.Path.{◌≡◌, refl, sym, ap, ◌∙◌}
 use mathlib.Core.Bool.{Bool, true, false, cond, ◌&&◌}
@@ -21,7 +22,6 @@ use Rattle.channel.specs.declared.Offer.{Offer}
 use Rattle.channel.specs.declared.Offer.TheVariants.{First, More}
 use Rattle.channel.specs.declared.Took.TheVariants.{Bars, Spoils, Holds, Finishes}
 use Rattle.channel.specs.declared.Decline.TheVariants.{Full}
-use Rattle.channel.specs.declared.Concern.TheVariants.{NoChannel, Channel}
 use Rattle.channel.specs.declared.Answer.{Answer}
 use Rattle.channel.specs.declared.Answer.TheVariants.{Ready, Opened, Declined, Held, Message, Closed, Ignored, Refused}
 use Rattle.channel.specs.Stages.{added, took_first, took}
@@ -127,7 +127,7 @@ module _ (n : ℕ) (r : Record) (part : List ℕ) (whole : length part ≡ PART)
       → BySteps (landed n r part block (took r.stage offer (length block))) n (join_at r.stage part) (Bring offer block)
   open_bring g offer block = rw (step_bring n (join_at r.stage part) offer block) (bring_says r.stage g offer block)
 
-  open_bad : (s : Stage) → BySteps (did (Open r part) (Refused BadList NoChannel) []) n (join_at s part) BadCreate
+  open_bad : (s : Stage) → BySteps (did (Open r part) (Refused BadList None) []) n (join_at s part) BadCreate
   unfolding joins step_says once
   open_bad Idle = record { answers = refl; replies = refl; hands = refl }
   open_bad (Joining wanted held) = record { answers = refl; replies = refl; hands = refl }
@@ -135,7 +135,7 @@ module _ (n : ℕ) (r : Record) (part : List ℕ) (whole : length part ≡ PART)
 
   open_again :
       (s : Stage) → (listed : Bool) (pri : ℕ)
-      → BySteps (did (Open r part) (Refused AlreadyOpen (Channel n)) []) n (join_at s part) (Create listed pri)
+      → BySteps (did (Open r part) (Refused AlreadyOpen (Some n)) []) n (join_at s part) (Create listed pri)
   unfolding joins step_says once
   open_again Idle listed pri = record { answers = refl; replies = refl; hands = refl }
   open_again (Joining wanted held) listed pri = record { answers = refl; replies = refl; hands = refl }
@@ -143,7 +143,7 @@ module _ (n : ℕ) (r : Record) (part : List ℕ) (whole : length part ≡ PART)
 
   open_unread :
       (s : Stage) (why : Refusal)
-      → BySteps (did (Open (restaged r Spoiled) part) (Refused why NoChannel) []) n (join_at s part) (Garbled why)
+      → BySteps (did (Open (restaged r Spoiled) part) (Refused why None) []) n (join_at s part) (Garbled why)
   unfolding joins step_says once
   open_unread Idle why = record { answers = refl; replies = refl; hands = refl }
   open_unread (Joining wanted held) why = record { answers = refl; replies = refl; hands = refl }
@@ -280,8 +280,8 @@ run_told l v (i ∷ is) f s = go i.event i.flag f.0 (λ w t. run_told l w is f.1
         (e : Event) (full : Bool) → FineBlock e
         → ((w : View) → SoundView w → alone_outs (chan_next l) (chan_out l) w is ≡ told_with (join_of w) (events_in is) (flags_in is))
         → chan_out l full v e ∷ alone_outs (chan_next l) (chan_out l) (chan_next l full v e) is ≡ told_with (join_of v) (e ∷ events_in is) (full ∷ flags_in is)
-    go (Unreadable why) full z later = ap (λ (r : List Told). tells_none (Refused why NoChannel) ∷ r) (later v s)
-    go (Capabilities version) full z later = ap (λ (r : List Told). tells_none (Refused WrongTime NoChannel) ∷ r) (later v s)
+    go (Unreadable why) full z later = ap (λ (r : List Told). tells_none (Refused why None) ∷ r) (later v s)
+    go (Capabilities version) full z later = ap (λ (r : List Told). tells_none (Refused WrongTime None) ∷ r) (later v s)
     go (Of n a) full z later =
         let b = act_both full l n v a s z in
         let rest = later (act l n (room_flag full) v a).view b.agrees.sound in
@@ -369,6 +369,6 @@ pub unflagged : {X : Type 0} (xs : List X) (j : Join) (es : List Event) → told
 unfolding told_with
 unflagged [] j es = refl
 unflagged (x ∷ xs) j [] = refl
-unflagged (x ∷ xs) j (Unreadable why ∷ es) = ap (λ (r : List Told). tells_none (Refused why NoChannel) ∷ r) (unflagged xs j es)
-unflagged (x ∷ xs) j (Capabilities version ∷ es) = ap (λ (r : List Told). tells_none (Refused WrongTime NoChannel) ∷ r) (unflagged xs j es)
+unflagged (x ∷ xs) j (Unreadable why ∷ es) = ap (λ (r : List Told). tells_none (Refused why None) ∷ r) (unflagged xs j es)
+unflagged (x ∷ xs) j (Capabilities version ∷ es) = ap (λ (r : List Told). tells_none (Refused WrongTime None) ∷ r) (unflagged xs j es)
 unflagged (x ∷ xs) j (Of n a ∷ es) = ap (λ (r : List Told). told_if false n j a ∷ r) (unflagged xs (joins_if false j a).join es)

@@ -2,6 +2,7 @@
 -- demand 3 (proofs/Unseen); strangers refute two of these. A few runs do it, with PUMP as the one listener; each refutation looks at
 -- one place of a run.
 -- Assumes nothing.
+use Rattle.std.specs.Prelude.{None, Some}
 use Prim.Native.Nat.{ℕ, zero, suc, ◌+◌}
 use mathlib.Core.Path.{◌≡◌, refl, sym, ap, ◌∙◌, subst}
 use mathlib.Core.Bool.{Bool, true, false}
@@ -23,7 +24,6 @@ use Rattle.laying.specs.Laying.{create_response_bytes, close_bytes}
 use Rattle.listeners.specs.Listeners.{names, ended, none_empty, same_bytes, is_one_of, all_names, good_list, is_listed}
 use Rattle.channel.specs.declared.Offer.TheVariants.{First, More}
 use Rattle.channel.specs.declared.Decline.TheVariants.{Full}
-use Rattle.channel.specs.declared.Concern.TheVariants.{NoChannel, Channel}
 use Rattle.channel.specs.declared.Answer.{Answer}
 use Rattle.channel.specs.declared.Answer.TheVariants.{Ready, Opened, Declined, Held, Message, Closed, Ignored, Refused}
 use Rattle.channel.specs.Stages.{added, took_first, took}
@@ -115,7 +115,7 @@ short_told =
     ∷ opened_told 5
     ∷ opened_told 6
     ∷ hands 5 (7 ∷ 8 ∷ [])
-    ∷ tells_none (Refused NoCommand NoChannel)
+    ∷ tells_none (Refused NoCommand None)
     ∷ tells_none (Held 5 2)
     ∷ hands 6 (9 ∷ [])
     ∷ tells_none (Held 5 1)
@@ -124,8 +124,8 @@ short_told =
     ∷ replies (Closed 5) (close_bytes 5)
     ∷ opened_told 5
     ∷ hands 5 (2 ∷ 3 ∷ 4 ∷ [])
-    ∷ tells_none (Refused CutShort NoChannel)
-    ∷ tells_none (Refused IsSpoiled (Channel 5))
+    ∷ tells_none (Refused CutShort None)
+    ∷ tells_none (Refused IsSpoiled (Some 5))
     ∷ []
 
 behind_told : List Told

@@ -1,6 +1,6 @@
 -- Demand 2's message: "cut by us and received on an open, idle channel". Cut by us is calls of `cut` as its
 -- contract gives them, one after the other; no other iteration of cutting is meant anywhere.
-use Rattle.std.specs.Prelude.{ℕ, ◌-◌, ◌≤◌, ◌<◌, ◌≡◌, true, cond, List, [], ◌∷◌, map, ltb, length, take}
+use Rattle.std.specs.Prelude.{ℕ, ◌-◌, ◌≤◌, ◌<◌, ◌≡◌, true, cond, List, [], ◌∷◌, map, ltb, length, take, Ok, Result}
 use Rattle.reading.specs.Reading.{read_pdu}
 use Rattle.channel.specs.declared.Record.{Record}
 use Rattle.channel.specs.declared.Stage.TheVariants.{Idle}
@@ -8,9 +8,9 @@ use Rattle.channel.specs.declared.Answer.TheVariants.{Held, Message}
 use Rattle.channel.specs.Channel.{Open, rebuilt}
 use Rattle.connection.specs.States.{State, view}
 use Rattle.client.specs.Events.{Event, event_of}
-use Rattle.cutting.specs.Cutting.{cut_at, cut_buffer, packed, unpacked}
+use Rattle.paper.specs.declared.Refusal.{Refusal}
+use Rattle.cutting.specs.Cutting.{cut_at, cut_buffer, packed, unpacked, piece_of}
 use Rattle.cutting.specs.declared.Piece.{Piece}
-use Rattle.cutting.specs.declared.Piece.TheVariants.{Pdu}
 use Rattle.demands.specs.Runs.{Call, Told, told_to, ends}
 
 -- ---- cut by us
@@ -27,12 +27,12 @@ cut_of buffer len next = record { pdu = take len buffer; next = next }
 -- Calls from an offset on, none refused, each at the offset that the one before answered, until the length is
 -- reached: `answer` and `buffer` are what a call at an offset answers and leaves. The test for the end stands
 -- behind the call, so that an empty message is one call.
-pub data Cuts (answer : ℕ → Piece) (buffer : ℕ → List ℕ) (total : ℕ) : ℕ → List Cut → Type 0 where
+pub data Cuts (answer : ℕ → Result Piece Refusal) (buffer : ℕ → List ℕ) (total : ℕ) : ℕ → List Cut → Type 0 where
   last_one :
-      {at : ℕ} (len next : ℕ) → answer at ≡ Pdu len next → total ≤ next
+      {at : ℕ} (len next : ℕ) → answer at ≡ Ok (piece_of len next) → total ≤ next
       → Cuts answer buffer total at (cut_of (buffer at) len next ∷ [])
   one_more :
-      {at : ℕ} (len next : ℕ) (cs : List Cut) → answer at ≡ Pdu len next → next < total
+      {at : ℕ} (len next : ℕ) (cs : List Cut) → answer at ≡ Ok (piece_of len next) → next < total
       → Cuts answer buffer total next cs
       → Cuts answer buffer total at (cut_of (buffer at) len next ∷ cs)
 

@@ -1,5 +1,5 @@
 -- Demand 1, sentence by sentence.
-use Rattle.std.specs.Prelude.{ℕ, ◌≡◌, ◌≢◌, Bool, true, false, List, length}
+use Rattle.std.specs.Prelude.{ℕ, ◌≡◌, ◌≢◌, Bool, true, false, List, length, Option, Err}
 use Rattle.paper.specs.Sizes.{PARTS, STORE}
 use Rattle.paper.specs.Rows.{first_held, comes_to}
 use Rattle.paper.specs.declared.Refusal.{Refusal}
@@ -9,10 +9,7 @@ use Rattle.reading.specs.Layouts.{reading_rows}
 use Rattle.reading.specs.Strict.{read_strict, strict_rows}
 use Rattle.laying.specs.Laying.{buffer_after}
 use Rattle.writing.specs.Writing as writing
-use Rattle.writing.specs.declared.Written.TheVariants.{Refused as NotWritten}
 use Rattle.cutting.specs.Cutting as cutting
-use Rattle.cutting.specs.declared.Piece.TheVariants.{Refused as NotCut}
-use Rattle.channel.specs.declared.Concern.{Concern}
 use Rattle.channel.specs.declared.Answer.TheVariants.{Refused}
 use Rattle.channel.specs.Channel.{LocalClose}
 use Rattle.table.specs.declared.Table.{Table}
@@ -78,11 +75,11 @@ pub record BadInputGetsItsNumber : Type 0 where
 pub record ARefusalLeavesAll : Type 0 where
   -- but for the one channel, which is the one with the number that the PDU carries
   pub receive :
-      (t : Table) (store list pdu reply : List ℕ) (why : Refusal) (concern : Concern) → length t.records ≡ PARTS
+      (t : Table) (store list pdu reply : List ℕ) (why : Refusal) (concern : Option ℕ) → length t.records ≡ PARTS
       → (received t store list pdu reply).result.answer ≡ Refused why concern
       → RefusedCall t store reply (event_of list pdu (read_pdu true pdu)) (received t store list pdu reply) why concern
   pub local_close :
-      (t : Table) (store : List ℕ) (n : ℕ) (reply : List ℕ) (why : Refusal) (concern : Concern)
+      (t : Table) (store : List ℕ) (n : ℕ) (reply : List ℕ) (why : Refusal) (concern : Option ℕ)
       → length t.records ≡ PARTS
       → (locally_closed t store n reply).result.answer ≡ Refused why concern
       → RefusedCall t store reply (Of n LocalClose) (locally_closed t store n reply) why concern
@@ -90,8 +87,8 @@ pub record ARefusalLeavesAll : Type 0 where
   pub start :
       (store : List ℕ) → length store ≢ STORE → ((started store).table ≡ empty_table) × (store_started store ≡ store)
   pub writing :
-      (bad : Bool) (pdu out : List ℕ) (why : Refusal) → writing.written bad pdu out ≡ NotWritten why
+      (bad : Bool) (pdu out : List ℕ) (why : Refusal) → writing.written bad pdu out ≡ Err why
       → buffer_after (writing.outcome (writing.written bad pdu out)) pdu out ≡ out
   pub cutting :
       (number : ℕ) (message : List ℕ) (offset : ℕ) (out : List ℕ) (why : Refusal)
-      → cutting.cut_at number message offset out ≡ NotCut why → cutting.cut_buffer number message offset out ≡ out
+      → cutting.cut_at number message offset out ≡ Err why → cutting.cut_buffer number message offset out ≡ out

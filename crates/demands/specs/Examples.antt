@@ -1,12 +1,11 @@
 -- Calls and runs for examples. PUMP is the one listener, and a reply buffer has nine bytes.
-use Rattle.std.specs.Prelude.{ℕ, List, [], ◌∷◌, length}
+use Rattle.std.specs.Prelude.{ℕ, List, [], ◌∷◌, length, None, Some}
 use Rattle.std.proofs.Common.{lit≤}
 use Rattle.paper.specs.Sizes.{STORE, REPLY_MIN}
 use Rattle.paper.specs.Statuses.{OPENED}
 use Rattle.lists.specs.Bytes.{zeros}
 use Rattle.laying.specs.Laying.{create_response_bytes, close_bytes}
 use Rattle.paper.specs.declared.Refusal.TheVariants.{CutShort, IsSpoiled}
-use Rattle.channel.specs.declared.Concern.TheVariants.{NoChannel, Channel}
 use Rattle.channel.specs.declared.Answer.{Answer}
 use Rattle.channel.specs.declared.Answer.TheVariants.{Opened, Held, Message, Closed, Refused}
 use Rattle.connection.specs.States.{State}
@@ -112,8 +111,8 @@ told_to_five =
     replies (Opened 5) (create_response_bytes 5 OPENED)
     ∷ tells_none (Held 5 2)
     ∷ hands 5 (1 ∷ 2 ∷ 3 ∷ [])
-    ∷ tells_none (Refused CutShort NoChannel)
-    ∷ tells_none (Refused IsSpoiled (Channel 5))
+    ∷ tells_none (Refused CutShort None)
+    ∷ tells_none (Refused IsSpoiled (Some 5))
     ∷ replies (Closed 5) (close_bytes 5)
     ∷ replies (Opened 5) (create_response_bytes 5 OPENED)
     ∷ hands 5 (7 ∷ 8 ∷ [])

@@ -1,6 +1,6 @@
 -- Garbled blocks: which PDUs they are, whose events, what they do; and the fault that they are about: "A cut-off Data First
 -- came in, was refused with 2, and the Data behind it went up as a command."
-use Rattle.std.specs.Prelude.{ℕ, ◌≤◌, ◌<◌, ◌≡◌, Bool, true, false, List, [], ◌∷◌, length}
+use Rattle.std.specs.Prelude.{ℕ, ◌≤◌, ◌<◌, ◌≡◌, Bool, true, false, List, [], ◌∷◌, length, None, Some}
 use Rattle.paper.specs.Commands.{DATA_FIRST}
 use Rattle.paper.specs.declared.Refusal.{Refusal}
 use Rattle.paper.specs.declared.Refusal.TheVariants.{CutShort}
@@ -8,11 +8,9 @@ use Rattle.numbers.specs.Numbers.{Bytes, width_of}
 use Rattle.reading.specs.Reading.{read_pdu}
 use Rattle.reading.specs.Grammar.{InWidth, carrying}
 use Rattle.reading.specs.Garbled.{carries, CarriesExactly}
-use Rattle.reading.specs.declared.Carried.TheVariants.{Number}
 use Rattle.reading.specs.declared.Pdu.TheVariants.{Refused as NotRead}
 use Rattle.channel.specs.declared.Stage.TheVariants.{Spoiled}
 use Rattle.channel.specs.declared.Record.{Record}
-use Rattle.channel.specs.declared.Concern.TheVariants.{NoChannel}
 use Rattle.channel.specs.declared.Answer.{Answer}
 use Rattle.channel.specs.declared.Answer.TheVariants.{Ready, Opened, Declined, Held, Message, Closed, Ignored, Refused}
 use Rattle.channel.specs.Channel.{Act, BadCreate, Create, Bring, Garbled, Closing, LocalClose, Shut, Open, restaged}
@@ -25,7 +23,7 @@ use Rattle.demands.specs.Telling.{tells_none}
 -- "a PDU of command 2, 3, 6 or 7 is refused while being read, yet its channel number stands in it whole"
 pub record IsGarbled (n : ℕ) (pdu : List ℕ) (why : Refusal) : Type 0 where
   pub refused : read_pdu true pdu ≡ NotRead why
-  pub whole : carries pdu ≡ Number n
+  pub whole : carries pdu ≡ Some n
 
 pub record WhichAreGarbled : Type 0 where
   -- where a number stands whole, by the bytes alone
@@ -39,7 +37,7 @@ pub record WhichAreGarbled : Type 0 where
       → event_of list pdu (read_pdu true pdu) ≡ Of n (Garbled why)
   -- "any PDU of these commands with its number whole is an event of that channel", readable or not
   pub own_events_law :
-      (list pdu : List ℕ) (n : ℕ) → carries pdu ≡ Number n → is_of n (event_of list pdu (read_pdu true pdu)) ≡ true
+      (list pdu : List ℕ) (n : ℕ) → carries pdu ≡ Some n → is_of n (event_of list pdu (read_pdu true pdu)) ≡ true
   -- a Data First that ends before its Length does is one
   pub a_data_first_cut_off :
       (n code lengthCode : ℕ) (rest : List ℕ) → InWidth code n → lengthCode ≤ 2 → length rest < width_of lengthCode
@@ -52,7 +50,7 @@ pub record AGarbledBlockSpoils : Type 0 where
       (n : ℕ) (why : Refusal) (st : State) → Steady st → (r : Record) (b : List ℕ) → view n st ≡ Open r b
       → view n (stepped st (Of n (Garbled why))).state ≡ Open (restaged r Spoiled) b
   pub answers :
-      (n : ℕ) (why : Refusal) (st : State) → Steady st → (stepped st (Of n (Garbled why))).answer ≡ Refused why NoChannel
+      (n : ℕ) (why : Refusal) (st : State) → Steady st → (stepped st (Of n (Garbled why))).answer ≡ Refused why None
   pub spoiled_already :
       (n : ℕ) (why : Refusal) (st : State) → Steady st → (r : Record) (b : List ℕ) → view n st ≡ Open r b
       → r.stage ≡ Spoiled → (stepped st (Of n (Garbled why))).state ≡ st
@@ -106,7 +104,7 @@ NeverClosed (e ∷ es) = (is_close e ≡ false) × NeverClosed es
 -- a garbled block on an open channel, and then a run: "hands up nothing until it has been closed and opened again"
 pub record NoHalfMessage (n : ℕ) (st : State) (c : Call) (why : Refusal) (xs : List Call) : Type 0 where
   -- the block itself: the refusal of reading, and nothing else
-  pub refused_as_read : told st c ≡ tells_none (Refused why NoChannel)
+  pub refused_as_read : told st c ≡ tells_none (Refused why None)
   -- until it is opened again nothing goes up on that channel, whatever follows on it and on others
   pub nothing_up : AllTold NotOpened (told_to n (after st c) xs) → AllTold NothingUp (told_to n (after st c) xs)
   -- and it isn't opened again before it is closed

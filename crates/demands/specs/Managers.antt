@@ -3,12 +3,11 @@
 -- is said by the events alone: whether a Capabilities request came, where each number's joining stands, and whether the
 -- paper's own steps on the events before it met a full table. No table, no record and no store of the manager's is looked
 -- at.
-use Rattle.std.specs.Prelude.{ℕ, ◌≡◌, Bool, true, false, cond, List, [], ◌∷◌, map, eqb}
+use Rattle.std.specs.Prelude.{ℕ, ◌≡◌, Bool, true, false, cond, List, [], ◌∷◌, map, eqb, None}
 use Rattle.paper.specs.Sizes.{STORE}
 use Rattle.paper.specs.declared.Refusal.TheVariants.{WrongTime}
 use Rattle.lists.specs.Bytes.{zeros}
 use Rattle.laying.specs.Laying.{caps_response_bytes}
-use Rattle.channel.specs.declared.Concern.TheVariants.{NoChannel}
 use Rattle.channel.specs.declared.Answer.TheVariants.{Ready, Refused}
 use Rattle.deciding.specs.Deciding.{too_soon, level_for}
 use Rattle.table.specs.Table.{empty_table}
@@ -88,9 +87,9 @@ ready_told version =
     record { answer = Ready (level_for version); reply = caps_response_bytes OUR_VERSION; message = [] }
 
 unfoldable pub sight_told : Bool → Sight → Event → Told
-sight_told full s (Unreadable why) = tells_none (Refused why NoChannel)
-sight_told full s (Capabilities version) = cond s.ready (tells_none (Refused WrongTime NoChannel)) (ready_told version)
-sight_told full s (Of n a) = cond s.ready (told_if full n (s.stand n) a) (tells_none (Refused (too_soon a) NoChannel))
+sight_told full s (Unreadable why) = tells_none (Refused why None)
+sight_told full s (Capabilities version) = cond s.ready (tells_none (Refused WrongTime None)) (ready_told version)
+sight_told full s (Of n a) = cond s.ready (told_if full n (s.stand n) a) (tells_none (Refused (too_soon a) None))
 
 -- the paper's steps on the events, for the full table alone
 unfoldable pub paper_start : State

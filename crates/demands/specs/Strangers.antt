@@ -3,12 +3,11 @@
 -- number. Let its own events be the same in both, with each of its Create requests that is listed and not already open
 -- meeting a full table in both runs or in neither. All other channels' events may differ in number and bytes, and the table
 -- may fill. Then that channel's answers, replies, messages, record and stored bytes are the same in both."
-use Rattle.std.specs.Prelude.{ℕ, ◌≤◌, ◌<◌, ◌≡◌, true, false, List, [], ◌∷◌, map, length}
+use Rattle.std.specs.Prelude.{ℕ, ◌≤◌, ◌<◌, ◌≡◌, true, false, List, [], ◌∷◌, map, length, Some}
 use Rattle.paper.specs.Sizes.{PARTS, STORE, REPLY_MIN}
 use Rattle.reading.specs.Reading.{read_pdu}
 use Rattle.reading.specs.Said.{bytes_at}
 use Rattle.reading.specs.Garbled.{carries}
-use Rattle.reading.specs.declared.Carried.TheVariants.{Number}
 use Rattle.reading.specs.declared.Extent.{Extent}
 use Rattle.reading.specs.declared.Pdu.TheVariants.{CreateRequest, DataFirst, Data, Close}
 use Rattle.listeners.specs.Listeners.{good_list, is_listed}
@@ -80,7 +79,7 @@ pub data OwnEvent (n : ℕ) : Happening → Type 0 where
       {pdu : List ℕ} (len : ℕ) (block : Extent) → read_pdu true pdu ≡ DataFirst n len block → OwnEvent n (pdu_received pdu)
   a_data : {pdu : List ℕ} (block : Extent) → read_pdu true pdu ≡ Data n block → OwnEvent n (pdu_received pdu)
   a_close : {pdu : List ℕ} → read_pdu true pdu ≡ Close n → OwnEvent n (pdu_received pdu)
-  its_number_whole : {pdu : List ℕ} → carries pdu ≡ Number n → OwnEvent n (pdu_received pdu)
+  its_number_whole : {pdu : List ℕ} → carries pdu ≡ Some n → OwnEvent n (pdu_received pdu)
   a_local_close : OwnEvent n (closed_locally n)
 
 -- ---- "each of its Create requests that is listed and not already open meeting a full table"

@@ -1,5 +1,5 @@
 -- Strict reading: "One meaning, one byte string." Demands 2 and 3 speak of plain reading, which stays.
-use Rattle.std.specs.Prelude.{ℕ, ◌<◌, ◌≡◌, Bool, true, cond, List, ◌⊎◌, length, take}
+use Rattle.std.specs.Prelude.{ℕ, ◌<◌, ◌≡◌, Bool, true, cond, List, ◌⊎◌, length, take, Ok}
 use Rattle.paper.specs.declared.Refusal.{Refusal}
 use Rattle.paper.specs.declared.Refusal.TheVariants.{Loose}
 use Rattle.numbers.specs.Numbers.{Bytes, NUMBERS}
@@ -10,8 +10,7 @@ use Rattle.reading.specs.Grammar.{Value, values, data_first_law, data_block}
 use Rattle.reading.specs.Strict.{accepted, read_strict}
 use Rattle.reading.specs.Tight.{strict_as, TightExactly, LooseExactly}
 use Rattle.writing.specs.ReadBack.{StrictBack}
-use Rattle.cutting.specs.declared.Piece.TheVariants.{Pdu}
-use Rattle.cutting.specs.Cutting.{is_first, block, cut_at, cut_buffer}
+use Rattle.cutting.specs.Cutting.{is_first, block, cut_at, cut_buffer, piece_of}
 use Rattle.demands.specs.Demand2.{WrittenIsRead}
 
 -- "Two PDUs that strict reading accepts, in one direction, have equal values exactly when their bytes are equal." Values
@@ -50,4 +49,4 @@ pub record WhatWeWriteIsStrict : Type 0 where
   pub writers : WrittenIsRead StrictBack
   pub cutter :
       (fromServer : Bool) (n : ℕ) → n < NUMBERS → (m : List ℕ) (at : ℕ) (out : List ℕ) (len next : ℕ)
-      → cut_at n m at out ≡ Pdu len next → strict_as fromServer (take len (cut_buffer n m at out)) ≡ values (cut_value n m at)
+      → cut_at n m at out ≡ Ok (piece_of len next) → strict_as fromServer (take len (cut_buffer n m at out)) ≡ values (cut_value n m at)

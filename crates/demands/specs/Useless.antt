@@ -1,11 +1,10 @@
 -- Managers that nobody would want, as values of the record: the paper's five, three more (6 to 8), and eight that are
 -- wrong only at times (9 to 16). All but the first two are a manager that has both demands and minds no stranger,
 -- `right`, with one thing made wrong.
-use Rattle.std.specs.Prelude.{ℕ, ◌≡◌, Bool, true, false, cond, List, [], ◌∷◌, eqb, length}
+use Rattle.std.specs.Prelude.{ℕ, ◌≡◌, Bool, true, false, cond, List, [], ◌∷◌, eqb, length, None}
 use Rattle.paper.specs.declared.Refusal.{Refusal}
 use Rattle.lists.specs.Bytes.{zeros}
 use Rattle.channel.specs.declared.Decline.TheVariants.{Unlisted, Full}
-use Rattle.channel.specs.declared.Concern.TheVariants.{NoChannel}
 use Rattle.channel.specs.declared.Answer.{Answer}
 use Rattle.channel.specs.declared.Answer.TheVariants.{Ready, Opened, Declined, Held, Message, Closed, Ignored, Refused}
 use Rattle.channel.specs.Channel.{Act, BadCreate, Create, Bring, Garbled, Closing, LocalClose}
@@ -73,7 +72,7 @@ OnlyNo {S} m = (s : S) (c : Call) → is_no (m.tells s c).answer ≡ true
 
 unfoldable pub refuses_all : Refusal → Manager (Unit {0})
 refuses_all why =
-    record { begin = tt; again = λ s. s; next = λ s c. s; tells = λ s c. tells_none (Refused why NoChannel) }
+    record { begin = tt; again = λ s. s; next = λ s c. s; tells = λ s c. tells_none (Refused why None) }
 
 -- ---- 2: it gives one fixed answer
 

@@ -1,6 +1,7 @@
 -- A run of C calls at the client is a run of the library: on the bytes of what it holds a call does what the library does, and what it
 -- leaves are the bytes of what it holds then.
 -- Assumes nothing.
+use Rattle.std.specs.Prelude.{Option, None, Some}
 use mathlib.Core.Path.{◌≡◌, refl, sym, ap, ◌∙◌, subst}
 use mathlib.Core.Bool.{true, false}
 use mathlib.Core.List.{List}
@@ -18,8 +19,6 @@ use Rattle.numbers.specs.Numbers.{Bytes, NUMBERS}
 use Rattle.reading.specs.Reading.{read_pdu}
 use Rattle.reading.specs.Said.{bytes_at}
 use Rattle.reading.specs.Garbled.{carries}
-use Rattle.reading.specs.declared.Carried.{Carried}
-use Rattle.reading.specs.declared.Carried.TheVariants.{NoNumber, Number}
 use Rattle.reading.specs.declared.Pdu.{Pdu}
 use Rattle.reading.specs.declared.Pdu.TheVariants.{CreateRequest, CreateResponse, DataFirst, Data, Close}
 use Rattle.reading.specs.declared.Pdu.TheVariants.{CapsRequest, CapsResponse, Refused as NotRead}
@@ -68,10 +67,10 @@ EventSmall (Unreadable why) = Unit {0}
 EventSmall (Capabilities version) = Unit {0}
 EventSmall (Of n a) = (n < NUMBERS) × ShortAct a
 
-unread_small : (why : Refusal) (carried : Carried) → CarriesSmall carried → EventSmall (unread why carried)
+unread_small : (why : Refusal) (carried : Option ℕ) → CarriesSmall carried → EventSmall (unread why carried)
 unfolding unread
-unread_small why NoNumber h = tt
-unread_small why (Number n) h = (h, tt)
+unread_small why None h = tt
+unread_small why (Some n) h = (h, tt)
 
 event_small : (list pdu : List ℕ) → Bytes pdu → (p : Pdu) → Brings pdu p → EventSmall (event_of list pdu p)
 unfolding event_of

@@ -1,5 +1,6 @@
 -- What a refusal leaves of what is lent: the library's refusal, in bytes.
 -- Assumes nothing.
+use Rattle.std.specs.Prelude.{Option}
 use mathlib.Core.Path.{◌≡◌, refl, sym, ap, ◌∙◌}
 use mathlib.Core.Bool.{Bool, true, false, cond, ◌&&◌}
 use mathlib.Core.List.{List}
@@ -12,7 +13,6 @@ use Rattle.lists.proofs.Cases.{both}
 use Rattle.numbers.specs.Numbers.{Bytes, NUMBERS}
 use Rattle.reading.specs.Reading.{read_pdu}
 use Rattle.channel.specs.declared.Stage.TheVariants.{Spoiled}
-use Rattle.channel.specs.declared.Concern.{Concern}
 use Rattle.channel.specs.declared.Answer.TheVariants.{Refused}
 use Rattle.channel.specs.Channel.{LocalClose, restaged}
 use Rattle.table.specs.declared.Table.{Table}
@@ -58,7 +58,7 @@ module _ (state : List ℕ) (h : Bytes state) (g : is_state CLIENT false state �
       go false e = client_again state h g
 
   -- a call that the library refuses
-  module _ (store reply : List ℕ) (e : Event) (w : Whole) (why : Refusal) (concern : Concern) where
+  module _ (store reply : List ℕ) (e : Event) (w : Whole) (why : Refusal) (concern : Option ℕ) where
     refused_face :
         GotBack w.result → answer_in (faced state store reply w).answer ≡ Refused why concern
         → (w.result.answer ≡ Refused why concern → RefusedCall (table_in state) store reply e w why concern)
@@ -75,7 +75,7 @@ module _ (state : List ℕ) (h : Bytes state) (g : is_state CLIENT false state �
         })
 
 pub received_refused :
-    (state store list pdu reply : List ℕ) (why : Refusal) (concern : Concern) → Bytes state → Bytes pdu
+    (state store list pdu reply : List ℕ) (why : Refusal) (concern : Option ℕ) → Bytes state → Bytes pdu
     → is_state CLIENT false state ≡ true → answer_in (dvc_received state store list pdu reply).answer ≡ Refused why concern
     → RefusedFace state store reply (event_of list pdu (read_pdu true pdu)) (dvc_received state store list pdu reply) why concern
 unfolding dvc_received
@@ -86,7 +86,7 @@ received_refused state store list pdu reply why concern h b g said =
     (a_refusal_leaves_all.receive t store list pdu reply why concern (length_told state))
 
 pub closed_refused :
-    (state store : List ℕ) (n : ℕ) (reply : List ℕ) (why : Refusal) (concern : Concern) → Bytes state → n < NUMBERS
+    (state store : List ℕ) (n : ℕ) (reply : List ℕ) (why : Refusal) (concern : Option ℕ) → Bytes state → n < NUMBERS
     → is_state CLIENT false state ≡ true → answer_in (dvc_closed state store n reply).answer ≡ Refused why concern
     → RefusedFace state store reply (Of n LocalClose) (dvc_closed state store n reply) why concern
 unfolding dvc_closed

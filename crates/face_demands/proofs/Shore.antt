@@ -1,6 +1,7 @@
 -- A run of C calls at the shore is a run of the library: on the bytes of what it holds a call does what the library does, and what it
 -- leaves are the bytes of what it holds then.
 -- Assumes nothing.
+use Rattle.std.specs.Prelude.{Option, None, Some}
 use mathlib.Core.Path.{◌≡◌, refl, sym, ap, ◌∙◌, subst}
 use mathlib.Core.Bool.{Bool, true, false, cond, not, ◌||◌}
 use mathlib.Core.List.{List}
@@ -19,8 +20,6 @@ use Rattle.lists.proofs.Laid.{length_zeros}
 use Rattle.numbers.specs.Numbers.{Bytes, NUMBERS}
 use Rattle.reading.specs.Reading.{read_pdu, bad_version}
 use Rattle.reading.specs.Garbled.{carries}
-use Rattle.reading.specs.declared.Carried.{Carried}
-use Rattle.reading.specs.declared.Carried.TheVariants.{NoNumber, Number}
 use Rattle.reading.specs.declared.Charges.{Charges}
 use Rattle.reading.specs.declared.Pdu.{Pdu}
 use Rattle.reading.specs.declared.Pdu.TheVariants.{CreateRequest, CreateResponse, DataFirst, Data, Close}
@@ -89,10 +88,10 @@ EventSmall (Response version) = Unit {0}
 EventSmall (Opening name class) = Unit {0}
 EventSmall (Of n d) = (n < NUMBERS) × ShortDeed d
 
-unread_small : (why : Refusal) (carried : Carried) → CarriesSmall carried → EventSmall (unread why carried)
+unread_small : (why : Refusal) (carried : Option ℕ) → CarriesSmall carried → EventSmall (unread why carried)
 unfolding unread
-unread_small why NoNumber h = tt
-unread_small why (Number n) h = (h, tt)
+unread_small why None h = tt
+unread_small why (Some n) h = (h, tt)
 
 event_small : (pdu : List ℕ) → Bytes pdu → (p : Pdu) → Brings pdu p → EventSmall (event_of pdu p)
 unfolding event_of

@@ -1,5 +1,6 @@
 -- What a refusal at the shore leaves of what is lent: the library's refusal, in bytes.
 -- Assumes nothing.
+use Rattle.std.specs.Prelude.{Option}
 use mathlib.Core.Path.{◌≡◌, refl, sym, ap, ◌∙◌}
 use mathlib.Core.Bool.{Bool, true, false, cond, not, ◌&&◌}
 use mathlib.Core.List.{List}
@@ -14,7 +15,6 @@ use Rattle.numbers.specs.Numbers.{Bytes, NUMBERS}
 use Rattle.reading.specs.Reading.{read_pdu}
 use Rattle.reading.specs.declared.Charges.{Charges}
 use Rattle.channel.specs.declared.Stage.TheVariants.{Spoiled}
-use Rattle.channel.specs.declared.Concern.{Concern}
 use Rattle.channel.specs.Channel.{LocalClose, restaged}
 use Rattle.table.specs.declared.Table.{Table}
 use Rattle.table.specs.Table.{number_place, record_at, with_record}
@@ -70,7 +70,7 @@ module _ (state : List ℕ) (h : Bytes state) (g : is_state SHORE true state ≡
       go false e = shore_again state h g
 
   -- a call that the library refuses
-  module _ (why : Refusal) (concern : Concern) where
+  module _ (why : Refusal) (concern : Option ℕ) where
     refused_face :
         (store reply : List ℕ) (e : Event) (w : Whole) → GivenBack w.result
         → said_in (faced state store reply w).answer ≡ Refused why concern
@@ -102,7 +102,7 @@ module _ (state : List ℕ) (h : Bytes state) (g : is_state SHORE true state ≡
         })
 
 pub received_refused :
-    (state store pdu reply : List ℕ) (why : Refusal) (concern : Concern) → Bytes state → Bytes pdu
+    (state store pdu reply : List ℕ) (why : Refusal) (concern : Option ℕ) → Bytes state → Bytes pdu
     → is_state SHORE true state ≡ true → said_in (dvc_shore_received state store pdu reply).answer ≡ Refused why concern
     → RefusedShoreFace state store reply (event_of pdu (read_pdu false pdu)) (dvc_shore_received state store pdu reply) why concern
 unfolding dvc_shore_received
@@ -113,7 +113,7 @@ received_refused state store pdu reply why concern h b g answered =
     (a_refusal_leaves_all.receive s store pdu reply why concern (rows_told state))
 
 pub closed_refused :
-    (state store : List ℕ) (n : ℕ) (reply : List ℕ) (why : Refusal) (concern : Concern) → Bytes state → n < NUMBERS
+    (state store : List ℕ) (n : ℕ) (reply : List ℕ) (why : Refusal) (concern : Option ℕ) → Bytes state → n < NUMBERS
     → is_state SHORE true state ≡ true → said_in (dvc_shore_closed state store n reply).answer ≡ Refused why concern
     → RefusedShoreFace state store reply (Of n (Acts LocalClose)) (dvc_shore_closed state store n reply) why concern
 unfolding dvc_shore_closed
@@ -124,7 +124,7 @@ closed_refused state store n reply why concern h b g answered =
     (a_refusal_leaves_all.local_close s store n reply why concern (rows_told state))
 
 pub requested_refused :
-    (state : List ℕ) (version : ℕ) (charges : Charges) (out : List ℕ) (why : Refusal) (concern : Concern) → Bytes state
+    (state : List ℕ) (version : ℕ) (charges : Charges) (out : List ℕ) (why : Refusal) (concern : Option ℕ) → Bytes state
     → is_state SHORE true state ≡ true → said_in (dvc_shore_requested state version charges out).answer ≡ Refused why concern
     → RefusedWriting state out (dvc_shore_requested state version charges out) concern
 unfolding dvc_shore_requested
@@ -134,7 +134,7 @@ requested_refused state version charges out why concern h g answered =
     (a_refusal_leaves_all.request s version charges out why concern)
 
 pub opened_refused :
-    (state name : List ℕ) (class : ℕ) (out : List ℕ) (why : Refusal) (concern : Concern) → Bytes state
+    (state name : List ℕ) (class : ℕ) (out : List ℕ) (why : Refusal) (concern : Option ℕ) → Bytes state
     → is_state SHORE true state ≡ true → said_in (dvc_shore_opened state name class out).answer ≡ Refused why concern
     → RefusedWriting state out (dvc_shore_opened state name class out) concern
 unfolding dvc_shore_opened

@@ -1,6 +1,6 @@
 -- What a refusal leaves of what a C host lends: every byte of the store and the reply; and every byte of the state, but that the
 -- listed refusals spoil the one record concerned.
-use Rattle.std.specs.Prelude.{ℕ, ◌-◌, ◌*◌, ◌<◌, ◌≡◌, true, false, cond, ◌&&◌, List}
+use Rattle.std.specs.Prelude.{ℕ, ◌-◌, ◌*◌, ◌<◌, ◌≡◌, true, false, cond, ◌&&◌, List, Option, None}
 use Rattle.paper.specs.Sizes.{PARTS}
 use Rattle.paper.specs.declared.Refusal.{Refusal}
 use Rattle.lists.specs.Bytes.{laid}
@@ -9,8 +9,6 @@ use Rattle.reading.specs.Reading.{read_pdu}
 use Rattle.reading.specs.declared.Charges.{Charges}
 use Rattle.channel.specs.declared.Stage.TheVariants.{Spoiled}
 use Rattle.channel.specs.declared.Record.{Record}
-use Rattle.channel.specs.declared.Concern.{Concern}
-use Rattle.channel.specs.declared.Concern.TheVariants.{NoChannel}
 use Rattle.channel.specs.declared.Answer.TheVariants.{Refused}
 use Rattle.channel.specs.Channel.{LocalClose, restaged}
 use Rattle.table.specs.Totals.{awaits, moved}
@@ -56,7 +54,7 @@ left_in why (Of n a) state =
 
 -- a call with an event that was refused
 pub record RefusedFace
-    (state store reply : List ℕ) (e : Event) (f : Faced) (why : Refusal) (concern : Concern) : Type 0 where
+    (state store reply : List ℕ) (e : Event) (f : Faced) (why : Refusal) (concern : Option ℕ) : Type 0 where
   pub stored : f.store ≡ store
   pub replied : f.reply ≡ reply
   pub none_sent : sent_in f.answer ≡ 0
@@ -65,11 +63,11 @@ pub record RefusedFace
 
 pub record ARefusalLeavesTheState : Type 0 where
   pub receive :
-      (state store list pdu reply : List ℕ) (why : Refusal) (concern : Concern) → Bytes state → Bytes pdu
+      (state store list pdu reply : List ℕ) (why : Refusal) (concern : Option ℕ) → Bytes state → Bytes pdu
       → is_state CLIENT false state ≡ true → answer_in (dvc_received state store list pdu reply).answer ≡ Refused why concern
       → RefusedFace state store reply (event_of list pdu (read_pdu true pdu)) (dvc_received state store list pdu reply) why concern
   pub local_close :
-      (state store : List ℕ) (n : ℕ) (reply : List ℕ) (why : Refusal) (concern : Concern) → Bytes state → n < NUMBERS
+      (state store : List ℕ) (n : ℕ) (reply : List ℕ) (why : Refusal) (concern : Option ℕ) → Bytes state → n < NUMBERS
       → is_state CLIENT false state ≡ true → answer_in (dvc_closed state store n reply).answer ≡ Refused why concern
       → RefusedFace state store reply (Of n LocalClose) (dvc_closed state store n reply) why concern
   -- bytes that are no state: refusal 1, and every byte stays
@@ -99,7 +97,7 @@ left_ashore why (shore.Of n (Acts a)) state =
     cond (spoils why a && is_open_at (table_in state) n) (spoiled_at state (number_place n (table_in state))) state
 
 pub record RefusedShoreFace
-    (state store reply : List ℕ) (e : shore.Event) (f : Faced) (why : Refusal) (concern : Concern) : Type 0 where
+    (state store reply : List ℕ) (e : shore.Event) (f : Faced) (why : Refusal) (concern : Option ℕ) : Type 0 where
   pub stored : f.store ≡ store
   pub replied : f.reply ≡ reply
   pub none_sent : sent_in f.answer ≡ 0
@@ -107,28 +105,28 @@ pub record RefusedShoreFace
   pub left : f.state ≡ left_ashore why e state
 
 -- the request or a local open that was refused
-pub record RefusedWriting (state out : List ℕ) (w : Wrote) (concern : Concern) : Type 0 where
+pub record RefusedWriting (state out : List ℕ) (w : Wrote) (concern : Option ℕ) : Type 0 where
   pub kept : w.state ≡ state
   pub unwritten : w.out ≡ out
   pub none_sent : sent_in w.answer ≡ 0
-  pub concerns : concern ≡ NoChannel
+  pub concerns : concern ≡ None
 
 pub record ARefusalLeavesTheStateAshore : Type 0 where
   pub receive :
-      (state store pdu reply : List ℕ) (why : Refusal) (concern : Concern) → Bytes state → Bytes pdu
+      (state store pdu reply : List ℕ) (why : Refusal) (concern : Option ℕ) → Bytes state → Bytes pdu
       → is_state SHORE true state ≡ true → said_in (dvc_shore_received state store pdu reply).answer ≡ said.Refused why concern
       → RefusedShoreFace state store reply (shore.event_of pdu (read_pdu false pdu)) (dvc_shore_received state store pdu reply) why concern
   pub local_close :
-      (state store : List ℕ) (n : ℕ) (reply : List ℕ) (why : Refusal) (concern : Concern) → Bytes state → n < NUMBERS
+      (state store : List ℕ) (n : ℕ) (reply : List ℕ) (why : Refusal) (concern : Option ℕ) → Bytes state → n < NUMBERS
       → is_state SHORE true state ≡ true → said_in (dvc_shore_closed state store n reply).answer ≡ said.Refused why concern
       → RefusedShoreFace state store reply (shore.Of n (Acts LocalClose)) (dvc_shore_closed state store n reply) why concern
   pub request :
-      (state : List ℕ) (version : ℕ) (charges : Charges) (out : List ℕ) (why : Refusal) (concern : Concern) → Bytes state
+      (state : List ℕ) (version : ℕ) (charges : Charges) (out : List ℕ) (why : Refusal) (concern : Option ℕ) → Bytes state
       → is_state SHORE true state ≡ true
       → said_in (dvc_shore_requested state version charges out).answer ≡ said.Refused why concern
       → RefusedWriting state out (dvc_shore_requested state version charges out) concern
   pub local_open :
-      (state name : List ℕ) (class : ℕ) (out : List ℕ) (why : Refusal) (concern : Concern) → Bytes state
+      (state name : List ℕ) (class : ℕ) (out : List ℕ) (why : Refusal) (concern : Option ℕ) → Bytes state
       → is_state SHORE true state ≡ true → said_in (dvc_shore_opened state name class out).answer ≡ said.Refused why concern
       → RefusedWriting state out (dvc_shore_opened state name class out) concern
   -- bytes that are no state: refusal 1, and every byte stays

@@ -8,12 +8,11 @@ use native.Mathlib.Omega.{arith}
 use lib.ListN.{length, take, drop, drop_of_length-le, length-drop}
 use lib.Seq.{take-append-le, take-take, take_all, drop-drop, length-take-le, drop-append_seam}
 use borrow.Rule.Slice.PartMut.{put_mid, same_len_mid}
-use Rattle.std.specs.Prelude.{Option, Some, None}
+use Rattle.std.specs.Prelude.{Option, Some, None, Ok}
 use Rattle.std.specs.Io.KnownBytes.{Consumes, IsAtEnd}
 use Rattle.std.proofs.lemmas.List.{drop-take, take-append-drop, append_assoc}
 use Rattle.lists.proofs.Cases.{lt_or_le}
 use Rattle.files.specs.Files.{Brings}
-use Rattle.files.specs.declared.Filled.TheVariants.{To}
 
 -- a list of no bytes
 none : (l : List ℕ) → length l ≡ 0 → l ≡ []
@@ -53,11 +52,11 @@ brought_behind l part rest from got at fits =
 pub read_brings : (old new : Option (List ℕ)) (l part : List ℕ) (had from got : ℕ)
     → from ≡ min had (length l) → length part ≡ length l - from → got ≤ length part
     → Consumes old new (take got part) × (got ≡ 0 → 0 < length part → IsAtEnd new)
-    → Brings old new (min had (length l)) (put_mid from (length l - from) l part) (To (from + got))
+    → Brings old new (min had (length l)) (put_mid from (length l - from) l part) (Ok (from + got))
 read_brings old new l part had from got e long fits did =
     let rest = drop (length l - from) (drop from l) in
     let whole : length (put_mid from (length l - from) l part) ≡ length l = same_len_mid from (length l - from) l part (long ∙ sym (length_lent l from)) in
-    subst (λ (n : ℕ). Brings old new n (put_mid from (length l - from) l part) (To (from + got))) e (
+    subst (λ (n : ℕ). Brings old new n (put_mid from (length l - from) l part) (Ok (from + got))) e (
       rw (brought_behind l part rest from got (omega arith) fits) did.0,
       λ none room. did.1 (omega arith) (omega arith),
     )

@@ -5,7 +5,7 @@
 // said on standard error, in a line with its name and why.
 #![tactic(auto)]
 
-ghost use Rattle.std.specs.Prelude.{◌≡◌, ◌≤◌, min, length, take, IfSome};
+ghost use Rattle.std.specs.Prelude.{◌≡◌, ◌≤◌, min, length, take, IfSome, IfOk};
 ghost use Rattle.files.specs.Files.{Fills, Brings, Loads};
 
 use std::env::FillError;
@@ -26,105 +26,83 @@ const ENAMETOOLONG: i32 = 36;
 // The bytes of a buffer for why something failed, in the system's words.
 const WHY_MAX: usize = 320;
 
-// What a buffer has after reads.
-#[derive(Drop)]
-pub enum Filled {
-    // So many bytes.
-    To(usize),
-    // A read failed.
-    Failed,
-}
+// Something failed, and a line on standard error says what and why.
+#[derive(Clone, Copy, Debug, PartialEq, Eq)]
+pub struct Failed;
 
-// Reads once, behind the bytes that the buffer has. Where nothing comes the input has ended.
+// Reads once, behind the bytes that the buffer has, and answers how many it has then. Where nothing comes the input has
+// ended.
 pub fn fill<R: Read>(
     rt: &impl Eprint,
     reader: &mut R,
     name: &[u8],
     buffer: &mut [u8],
     had: usize,
-) -> Filled
+) -> Result<usize, Failed>
     ensures fills { Fills (min had (length buffer.old)) (length buffer.old) result }
     ensures brings { Brings (R.remaining reader.old) (R.remaining reader.new)
         (min had (length buffer.old)) buffer.new result }
     ensures buffer_unchanged { take had buffer.new ≡ take had buffer.old }
 {
-    let from = lists::lesser(had, buffer.len());
-    let part = &mut buffer[from..];
-    match reader.read(part) {
-        Ok(got) => Filled::To(from + got),
-        Err(why) => {
-            fail(rt, name, why);
-            Filled::Failed
-        }
+    let from = had.min(buffer.len());
+    match reader.read(&mut buffer[from..]) {
+        Ok(got) => Ok(from + got),
+        Err(why) => Err(fail(rt, name, why)),
     }
 }
 
-// Reads until the input ends or the buffer is full.
-pub fn load<R: Read>(rt: &impl Eprint, reader: &mut R, name: &[u8], buffer: &mut [u8]) -> Filled
+// Reads until the input ends or the buffer is full, and answers how many bytes the buffer has then.
+pub fn load<R: Read>(
+    rt: &impl Eprint,
+    reader: &mut R,
+    name: &[u8],
+    buffer: &mut [u8],
+) -> Result<usize, Failed>
     ensures fills { Fills 0 (length buffer.old) result }
     ensures loads { Loads (R.remaining reader.old) (R.remaining reader.new) buffer.new result }
 {
     let mut had = 0;
+    // A read brings as many bytes as it likes, so this is no loop over a range.
     while had < buffer.len() {
-        let Filled::To(n) = fill(rt, reader, name, buffer, had) else {
-            return Filled::Failed;
-        };
+        let n = fill(rt, reader, name, buffer, had)?;
         if n == had {
             break;
         }
         had = n;
     }
-    Filled::To(had)
+    Ok(had)
 }
 
-// Writes all the bytes to standard output, or says on standard error why it can't, and answers which.
-pub fn write(rt: &(impl Print + Eprint), bytes: &[u8]) -> bool
+// Writes all the bytes to standard output, or says on standard error why it can't.
+pub fn write(rt: &(impl Print + Eprint), bytes: &[u8]) -> Result<(), Failed>
     ensures { bytes.now ≡ bytes.now }
 {
-    match rt.write_all(bytes) {
-        Ok(()) => true,
-        Err(why) => {
-            fail(rt, b"standard output", why);
-            false
-        }
-    }
+    rt.write_all(bytes)
+        .map_err(|why| fail(rt, b"standard output", why))
 }
 
 // Opens the file for reading, or says on standard error why it can't. A name is text.
-pub fn open<R: Files + Eprint>(rt: &R, name: &[u8]) -> Option<R::File>
+pub fn open<R: Files + Eprint>(rt: &R, name: &[u8]) -> Result<R::File, Failed>
     ensures { name.now ≡ name.now }
 {
     let Ok(text) = str::from_utf8(name) else {
-        fail(rt, name, io::Error::from(io::ErrorKind::InvalidFilename));
-        return None;
+        return Err(fail(rt, name, io::Error::from(io::ErrorKind::InvalidFilename)));
     };
-    match File::open(rt, text) {
-        Ok(file) => Some(file),
-        Err(why) => {
-            fail(rt, name, why);
-            None
-        }
-    }
+    File::open(rt, text).map_err(|why| fail(rt, name, why))
 }
 
-// How many arguments there are behind the program's own name.
+// How many arguments there are behind the program's own name. What the system has no contract can say.
 pub fn arguments(rt: &impl Env) -> usize {
-    for i in 1..usize::MAX {
-        if let Err(FillError::NotPresent) = rt.arg(i, &mut []) {
-            return i - 1;
-        }
-    }
-    usize::MAX
+    (1..usize::MAX)
+        .position(|i| matches!(rt.arg(i, &mut []), Err(FillError::NotPresent)))
+        .unwrap_or(usize::MAX)
 }
 
 // Puts an argument at the front of the buffer. Answers its length, or nothing where it is missing or longer.
-pub fn argument(rt: &impl Env, i: usize, buffer: &mut [u8]) -> usize
-    ensures { result ≤ length buffer.new }
+pub fn argument(rt: &impl Env, i: usize, buffer: &mut [u8]) -> Option<usize>
+    ensures { IfSome result (λ n. n ≤ length buffer.new) }
 {
-    match rt.arg(i, buffer) {
-        Ok(n) => n,
-        Err(_) => 0,
-    }
+    rt.arg(i, buffer).ok()
 }
 
 // Puts an argument that names a file at the front of the buffer. Answers its length, or says on standard error why it
@@ -134,21 +112,17 @@ pub fn file_name(
     i: usize,
     what: &[u8],
     buffer: &mut [u8],
-) -> Option<usize>
-    ensures length { IfSome result (λ n. n ≤ length buffer.new) }
+) -> Result<usize, Failed>
+    ensures length { IfOk result (λ n. n ≤ length buffer.new) }
     ensures what_unchanged { what.now ≡ what.now }
 {
-    match rt.arg(i, buffer) {
-        Ok(n) => Some(n),
-        Err(FillError::NotPresent) => {
-            fail(rt, what, io::Error::from_raw_os_error(EINVAL));
-            None
-        }
-        Err(FillError::TooLong) => {
-            fail(rt, what, io::Error::from_raw_os_error(ENAMETOOLONG));
-            None
-        }
-    }
+    rt.arg(i, buffer).map_err(|why| {
+        let number = match why {
+            FillError::NotPresent => EINVAL,
+            FillError::TooLong => ENAMETOOLONG,
+        };
+        fail(rt, what, io::Error::from_raw_os_error(number))
+    })
 }
 
 // Writes bytes to standard error, as text.
@@ -158,13 +132,13 @@ pub fn complain(rt: &impl Eprint, bytes: &[u8])
     let _ = rt.eprint(Text { bytes });
 }
 
-// Writes a line to standard error: what failed, a colon and why, in the system's words.
-pub fn fail(rt: &impl Eprint, what: &[u8], why: io::Error)
+// Writes a line to standard error: what failed, a colon and why, in the system's words. Answers that it did.
+pub fn fail(rt: &impl Eprint, what: &[u8], why: io::Error) -> Failed
     ensures { what.now ≡ what.now }
 {
     let mut room = Cursor::new([0u8; WHY_MAX]);
     let _ = write!(room, "{why}");
-    let n = lists::lesser(room.position() as usize, WHY_MAX);
+    let n = WHY_MAX.min(room.position() as usize);
     let words = room.into_inner();
     let end = reason(&words[..n]);
     let _ = eprintln!(rt;
@@ -174,18 +148,20 @@ pub fn fail(rt: &impl Eprint, what: &[u8], why: io::Error)
             bytes: &words[..end]
         }
     );
+    Failed
 }
+
+// What stands between a failure's words and its number.
+const OS_ERROR: &[u8] = b" (os error ";
 
 // Where a failure's words end: what follows is the system's number of it.
 fn reason(words: &[u8]) -> usize
     ensures { result ≤ length words.now }
 {
-    for i in 0..words.len() {
-        if words[i..].starts_with(b" (os error ") {
-            return i;
-        }
-    }
-    words.len()
+    words
+        .windows(OS_ERROR.len())
+        .position(|at| at == OS_ERROR)
+        .unwrap_or(words.len())
 }
 
 // Bytes as text. What isn't text in them shows as U+FFFD.

@@ -4,6 +4,7 @@ use Rattle.std.specs.Prelude.{ℕ, ◌+◌, cond, List, eqb, drop, get_or}
 use Rattle.paper.specs.Sizes.{PARTS}
 use Rattle.numbers.specs.Numbers.{value_of, value_at}
 use Rattle.reading.specs.declared.Charges.{Charges}
+use Rattle.reading.specs.Reading.{charges_at}
 use Rattle.records.specs.Records.{LENGTH, announced, pdu_in}
 use Rattle.records.specs.Desk.{REQUEST, OPEN, CLOSE, OPEN_HEAD}
 use Rattle.shore.specs.declared.Shore.{Shore}
@@ -16,13 +17,7 @@ unfoldable pub version_in : List ℕ → ℕ
 version_in bytes = value_at bytes LENGTH 2
 
 unfoldable pub charges_in : List ℕ → Charges
-charges_in bytes =
-    record {
-      class0 = value_at bytes (LENGTH + 2) 2;
-      class1 = value_at bytes (LENGTH + 4) 2;
-      class2 = value_at bytes (LENGTH + 6) 2;
-      class3 = value_at bytes (LENGTH + 8) 2;
-    }
+charges_in bytes = charges_at bytes (LENGTH + 2)
 
 -- "a local open (class 1 byte, name's length 2 bytes, name)"
 unfoldable pub class_in : List ℕ → ℕ

@@ -1,5 +1,6 @@
 -- What each end's steps and the hosts put on the wire are encodings, which the other end takes for the event that they say.
 -- Assumes nothing.
+use Rattle.std.specs.Prelude.{Ok}
 use mathlib.Core.Path.{◌≡◌, refl}
 use mathlib.Core.Bool.{Bool, true, false}
 use mathlib.Core.List.{List, []}
@@ -25,10 +26,8 @@ use Rattle.laying.specs.Laying.{buffer_after, data_first_bytes, data_bytes}
 use Rattle.laying.proofs.Lengths.{length_create_response, length_close, length_caps_response, length_caps_request}
 use Rattle.laying.proofs.Encoded.{create_response_encoded, close_encoded, caps_response_encoded, data_encoded, data_first_encoded}
 use Rattle.writing.specs.Writing.{bad_request, bad_capabilities, written, outcome}
-use Rattle.writing.specs.declared.Written.TheVariants.{Length}
 use Rattle.writing.proofs.SameValues.{caps_request_encodes, create_request_good, went}
-use Rattle.cutting.specs.Cutting.{is_first, block, cut_pdu, cut_at, cut_buffer}
-use Rattle.cutting.specs.declared.Piece.TheVariants.{Pdu as Piece-of}
+use Rattle.cutting.specs.Cutting.{is_first, block, cut_pdu, cut_at, cut_buffer, piece_of}
 use Rattle.cutting.proofs.Answers.{given}
 use Rattle.cutting.proofs.Blocks.{cut_first, cut_data, cut_fits}
 use Rattle.lists.proofs.Cases.{choice}
@@ -127,7 +126,7 @@ data_silent dir (data_more m block small short) n = (refl, (refl, refl))
 -- what our writers write
 pub written_first :
     (n len : ℕ) (block out : List ℕ) (k : ℕ) → n < NUMBERS → len < NUMBERS
-    → written false (data_first_bytes n len block) out ≡ Length k
+    → written false (data_first_bytes n len block) out ≡ Ok k
     → HostData (take k (buffer_after (outcome (written false (data_first_bytes n len block) out)) (data_first_bytes n len block) out))
 written_first n len block out k small low g =
     let w = went false (data_first_bytes n len block) out _ _ k refl refl g in
@@ -135,7 +134,7 @@ written_first n len block out k small low g =
 
 -- a Data
 pub written_data :
-    (n : ℕ) (block out : List ℕ) (k : ℕ) → n < NUMBERS → written false (data_bytes n block) out ≡ Length k
+    (n : ℕ) (block out : List ℕ) (k : ℕ) → n < NUMBERS → written false (data_bytes n block) out ≡ Ok k
     → HostData (take k (buffer_after (outcome (written false (data_bytes n block) out)) (data_bytes n block) out))
 written_data n block out k small g =
     let w = went false (data_bytes n block) out _ _ k refl refl g in
@@ -159,7 +158,7 @@ cut_data_is n m at small short = go (is_first (length m) at) refl
 
 -- one call
 cut_one :
-    (n : ℕ) (m : List ℕ) (at : ℕ) (out : List ℕ) (len next : ℕ) → n < NUMBERS → cut_at n m at out ≡ Piece-of len next
+    (n : ℕ) (m : List ℕ) (at : ℕ) (out : List ℕ) (len next : ℕ) → n < NUMBERS → cut_at n m at out ≡ Ok (piece_of len next)
     → HostData (take len (cut_buffer n m at out))
 cut_one n m at out len next small e = let g = given n m at out len next e in rw g.stands (cut_data_is n m at small g.short_enough)
 

@@ -1,5 +1,6 @@
 -- What the invariant says: at any time, and once every sent PDU has been received.
 -- Assumes nothing.
+use Rattle.std.specs.Prelude.{Option}
 use mathlib.Core.Path.{◌≡◌, refl, sym, ap, ◌∙◌}
 use mathlib.Core.Logic.{◌≢◌}
 use mathlib.Core.Bool.{Bool, true, false, not, true≢false}
@@ -10,7 +11,6 @@ use Rattle.paper.specs.Sizes.{REPLY_MIN}
 use Rattle.paper.specs.declared.Refusal.TheVariants.{AlreadyOpen, NotAwaited}
 use Rattle.listeners.specs.Listeners.{good_list}
 use Rattle.channel.specs.declared.Record.{Record}
-use Rattle.channel.specs.declared.Concern.{Concern}
 use Rattle.channel.specs.declared.Answer.TheVariants as answer
 use Rattle.channel.specs.Channel.{View, Shut, Open}
 use Rattle.connection.specs.States.{view}
@@ -70,7 +70,7 @@ module _ (j : Ends) (t : Tied j) where
   -- the oldest PDU on its way to the panel isn't refused with 9
   pub not_9 :
       (pdu : List ℕ) (rest : List (List ℕ)) → j.down ≡ (pdu ∷ rest) → (list buffer : List ℕ) → good_list list ≡ true → REPLY_MIN ≤ length buffer
-      → (concern : Concern) → (panel.gives j.panel (panel.receives list pdu) buffer).result.answer ≢ answer.Refused AlreadyOpen concern
+      → (concern : Option ℕ) → (panel.gives j.panel (panel.receives list pdu) buffer).result.answer ≢ answer.Refused AlreadyOpen concern
   unfolding whole_of
   not_9 pdu rest e list buffer good enough concern f =
       let a : AllSent true (pdu ∷ rest) = rw e at t.down_sent in
@@ -87,7 +87,7 @@ module _ (j : Ends) (t : Tied j) where
 
   -- and to the shore with 16
   pub not_16 :
-      (pdu : List ℕ) (rest : List (List ℕ)) → j.up ≡ (pdu ∷ rest) → (buffer : List ℕ) → REPLY_MIN ≤ length buffer → (concern : Concern)
+      (pdu : List ℕ) (rest : List (List ℕ)) → j.up ≡ (pdu ∷ rest) → (buffer : List ℕ) → REPLY_MIN ≤ length buffer → (concern : Option ℕ)
       → (shore.gives j.shore (shore.receives pdu) buffer).said ≢ said.Refused NotAwaited concern
   not_16 pdu rest e buffer enough concern f =
       let a : AllSent false (pdu ∷ rest) = rw e at t.up_sent in

@@ -1,6 +1,6 @@
 -- "With a panel end joined to it in order and without loss, and proper buffers and lists at both, both have the same open
 -- numbers once every sent PDU has been received."
-use Rattle.std.specs.Prelude.{ℕ, ◌≤◌, ◌<◌, ◌≡◌, ◌≢◌, true, false, List, [], ◌∷◌, length, take}
+use Rattle.std.specs.Prelude.{ℕ, ◌≤◌, ◌<◌, ◌≡◌, ◌≢◌, true, false, List, [], ◌∷◌, length, take, Option, Ok}
 use Rattle.paper.specs.Sizes.{STORE, REPLY_MIN}
 use Rattle.paper.specs.declared.Refusal.{Refusal}
 use Rattle.paper.specs.declared.Refusal.TheVariants.{AlreadyOpen, NotAwaited}
@@ -8,11 +8,9 @@ use Rattle.numbers.specs.Numbers.{NUMBERS}
 use Rattle.reading.specs.Reading.{read_pdu}
 use Rattle.reading.specs.declared.Pdu.TheVariants as read
 use Rattle.laying.specs.Laying.{buffer_after, data_first_bytes, data_bytes}
-use Rattle.writing.specs.declared.Written.TheVariants.{Length}
 use Rattle.writing.specs.Writing.{written, outcome}
 use Rattle.listeners.specs.Listeners.{good_list}
 use Rattle.channel.specs.declared.Record.{Record}
-use Rattle.channel.specs.declared.Concern.{Concern}
 use Rattle.channel.specs.declared.Answer.TheVariants as answer
 use Rattle.channel.specs.Channel.{Open}
 use Rattle.connection.specs.States.{view}
@@ -39,12 +37,12 @@ module _ (one two : List ℕ) (ms : List Move) where
     -- "refusals 9 (panel) and 16 (shore) never come up"
     pub never_9 :
         (pdu : List ℕ) (rest : List (List ℕ)) → (reached one two ms).down ≡ (pdu ∷ rest)
-        → (list buffer : List ℕ) → good_list list ≡ true → REPLY_MIN ≤ length buffer → (concern : Concern)
+        → (list buffer : List ℕ) → good_list list ≡ true → REPLY_MIN ≤ length buffer → (concern : Option ℕ)
         → (panel.gives (reached one two ms).panel (panel.receives list pdu) buffer).result.answer
         ≢ answer.Refused AlreadyOpen concern
     pub never_16 :
         (pdu : List ℕ) (rest : List (List ℕ)) → (reached one two ms).up ≡ (pdu ∷ rest)
-        → (buffer : List ℕ) → REPLY_MIN ≤ length buffer → (concern : Concern)
+        → (buffer : List ℕ) → REPLY_MIN ≤ length buffer → (concern : Option ℕ)
         → (shore.gives (reached one two ms).shore (shore.receives pdu) buffer).said ≢ said.Refused NotAwaited concern
     -- no PDU is refused in reading by the other end
     pub panel_reads :
@@ -69,10 +67,10 @@ pub record JoinedEnds : Type 0 where
   -- what our writers write is such data, and what we cut
   pub written_first :
       (n len : ℕ) (block out : List ℕ) (k : ℕ) → n < NUMBERS → len < NUMBERS
-      → written false (data_first_bytes n len block) out ≡ Length k
+      → written false (data_first_bytes n len block) out ≡ Ok k
       → HostData (take k (buffer_after (outcome (written false (data_first_bytes n len block) out)) (data_first_bytes n len block) out))
   pub written_data :
-      (n : ℕ) (block out : List ℕ) (k : ℕ) → n < NUMBERS → written false (data_bytes n block) out ≡ Length k
+      (n : ℕ) (block out : List ℕ) (k : ℕ) → n < NUMBERS → written false (data_bytes n block) out ≡ Ok k
       → HostData (take k (buffer_after (outcome (written false (data_bytes n block) out)) (data_bytes n block) out))
   pub cut_by_us :
       (n : ℕ) (m : List ℕ) (lent : ℕ → List ℕ) (cs : List Cut) → n < NUMBERS → CutByUs n m lent cs

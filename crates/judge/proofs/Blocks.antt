@@ -1,23 +1,20 @@
--- The laws of a block beside the message: where nothing of the message is left, and what is left of it where something is.
+-- The law of a block beside what is left of the message: the library compares the block with it, the definition it with the block.
 -- Assumes nothing.
-use Rattle.std.proofs.Common.{◌≡◌, ℕ, ◌+◌, ◌-◌, ◌≤◌, min, eqb, List, [], ◌∷◌, length, take, drop, refl, arith, length-drop, drop_of_length-le, ne_eqb}
-use lib.Seq.{take-nil}
-use Rattle.lists.proofs.Laid.{from_to, take_least}
+use Rattle.std.proofs.Common.{◌≡◌, ℕ, Bool, true, false, eqb, List, [], ◌∷◌, refl, sym, eq-eqb, ne_eqb, eqb-true}
+use borrow.Author.Tests.{eqb-false}
+use lib.Pointwise.{pointwise}
 use Rattle.listeners.specs.Listeners.{same_bytes}
-use Rattle.judge.specs.Judge.{agrees}
 
-empty_only : (block : List ℕ) → eqb (length block) 0 ≡ same_bytes [] block
+swapped : (x y : ℕ) → eqb x y ≡ eqb y x
+swapped x y = go (eqb x y) refl
+  where
+    go : (t : Bool) → eqb x y ≡ t → t ≡ eqb y x
+    go true is = sym (eq-eqb y x (sym (eqb-true x y is)))
+    go false is = sym (ne_eqb y x (λ e. eqb-false x y is (sym e)))
+
+pub compared_so : (block bytes : List ℕ) → pointwise eqb block bytes ≡ same_bytes bytes block
 unfolding same_bytes
-empty_only [] = refl
-empty_only (x ∷ block) = ne_eqb (length (x ∷ block)) 0 (λ e. omega arith)
-
-pub none_left : (message : List ℕ) (from : ℕ) (block : List ℕ) → length message ≤ from
-    → eqb (length block) 0 ≡ agrees message from block
-unfolding agrees
-none_left message from block h = rw (drop_of_length-le message {i = from} h, take-nil (length block)) (empty_only block)
-
-pub some_left : (message : List ℕ) (from : ℕ) (block : List ℕ) (n : ℕ) → n ≡ min (length block) (length message - from)
-    → take (from + n - from) (drop from message) ≡ take (length block) (drop from message)
-some_left message from block n e =
-    let least : n ≡ min (length block) (length (drop from message)) = rw (length-drop from message) e in
-    rw (from_to message from n, least) (take_least (length block) (drop from message))
+compared_so [] [] = refl
+compared_so [] (y ∷ bytes) = refl
+compared_so (x ∷ block) [] = refl
+compared_so (x ∷ block) (y ∷ bytes) = rw (swapped x y, compared_so block bytes)

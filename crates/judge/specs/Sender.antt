@@ -10,7 +10,7 @@ use Rattle.judge.specs.declared.Reason.TheVariants.{Reading, Kind, OtherChannel,
 use Rattle.judge.specs.declared.Course.{Course}
 use Rattle.judge.specs.declared.Judgement.{Judgement}
 use Rattle.judge.specs.declared.Judgement.TheVariants.{Yes, No, Early, Differs}
-use Rattle.judge.specs.declared.Stand.{Stand}
+use Rattle.records.specs.declared.Stand.{Stand}
 use Rattle.judge.specs.Judge.{course_after, beginning, judgement_on}
 
 -- ---- the input: "number 4 bytes, message length 2 bytes, message, then the PDUs as in the walker"
@@ -71,15 +71,15 @@ line_at head course left = cond (is_whole head && left == 0) (judgement_line (ju
 -- ---- a run
 
 -- where it stands, by what a walk over the PDUs keeps and leaves
-abbrev pub stand_of : Stood Course → Stand
+abbrev pub stand_of : Stood Course → Stand Course
 stand_of at = record { course = at.kept; had = length at.left }
 
 -- the bytes that are there, behind a course: the whole records are judged, and the rest is left
-unfoldable pub turned : ℕ → List ℕ → Course → List ℕ → Stand
+unfoldable pub turned : ℕ → List ℕ → Course → List ℕ → Stand Course
 turned n message course input = stand_of (stood_after (course_after n message) course input)
 
 -- where a run begins
-unfoldable pub at_first : Stand
+unfoldable pub at_first : Stand Course
 at_first = record { course = beginning; had = 0 }
 
 -- all that the program writes for an input
@@ -90,7 +90,7 @@ sender_says input =
     line_at head stand.course stand.had
 
 -- the same in pieces
-unfoldable pub in_pieces : ℕ → List ℕ → List (List ℕ) → Stand
+unfoldable pub in_pieces : ℕ → List ℕ → List (List ℕ) → Stand Course
 in_pieces n message pieces = stand_of (after_reads (course_after n message) (record { kept = beginning; left = [] }) pieces)
 
 -- what is said at the end of a run: `head` was read first, as far as it needs, and then the pieces

@@ -11,14 +11,14 @@ ghost use Rattle.lists.specs.Bytes.{laid};
 ghost use Rattle.channel.specs.Stages.{took};
 ghost use Rattle.lines.specs.Lines.{LINE_MAX};
 ghost use Rattle.records.specs.Records.{whole_of};
-ghost use Rattle.records.specs.Walks.{records_of, size_of, rest_of};
-ghost use Rattle.records.specs.Pdus.{pdus_in};
-ghost use Rattle.judge.specs.Judge.{agrees, course_by, brought, course_after, course_over, judgement_on};
+ghost use Rattle.records.specs.Walks.{rest_of};
+ghost use Rattle.judge.specs.Judge.{agrees, course_by, brought, course_after, judgement_on};
 ghost use Rattle.judge.specs.Sender.{HEAD, HEAD_MAX, head_needs, is_whole, REASON_MAX, reason_field, judgement_line, line_at, turned, at_first};
 
 use channel::{Offer, Stage, Took};
+use lines::Pen;
 use reading::Pdu;
-use records::LENGTH;
+use records::Stand;
 
 // The bytes of the channel's number, and of number and message length.
 pub const NUMBER: usize = 4;
@@ -65,7 +65,7 @@ pub enum Course {
     },
 }
 
-// What a list comes to.
+// What a list comes to. Its four answers are printed each in a word of its own: not the shape of a result.
 #[derive(Clone, Copy)]
 pub enum Judgement {
     Yes,
@@ -77,49 +77,27 @@ pub enum Judgement {
     Differs,
 }
 
-// Where a run stands between two reads: the course, and how many bytes were left.
-#[derive(Clone, Copy)]
-pub struct Stand {
-    pub course: Course,
-    pub had: usize,
-}
-
-// What a walk through records gives: the course, and how many bytes of the input it took.
-#[derive(Clone, Copy)]
-struct Walked {
-    course: Course,
-    taken: usize,
-}
-
 // Whether the block is the message's bytes from a place on.
+#[tactic(auto, using(lists::proofs::Lent::rest_lent, crate::proofs::Blocks::compared_so), unfolding(crate::specs::Judge::agrees))]
 fn agrees(message: &[u8], from: usize, block: &[u8]) -> bool
     ensures { result ≡ agrees message.now from block.now }
 {
-    if message.len() <= from {
-        return block.len() == 0;
-    }
-    let n = lists::lesser(block.len(), message.len() - from);
-    check::same(&message[from..from + n], block)
+    let start = from.min(message.len());
+    message[start..].starts_with(block)
 }
 
 // The same, if what is before it agreed.
 fn agrees_on(same: bool, message: &[u8], from: usize, block: &[u8]) -> bool
     ensures { result ≡ (same && agrees message.now from block.now) }
 {
-    if !same {
-        return false;
-    }
-    agrees(message, from, block)
+    same && agrees(message, from, block)
 }
 
 // Whether a message of so many bytes, that ends with the block, is the message.
 fn is_message(same: bool, message: &[u8], from: usize, block: &[u8], len: usize) -> bool
     ensures { result ≡ ((same && agrees message.now from block.now) && len == length message.now) }
 {
-    if !agrees_on(same, message, from, block) {
-        return false;
-    }
-    len == message.len()
+    agrees_on(same, message, from, block) && len == message.len()
 }
 
 // A block of the channel's.
@@ -136,7 +114,7 @@ fn lands(message: &[u8], place: u64, stage: Stage, same: bool, offer: Offer, blo
             why: Reason::Steps,
         },
         Took::Holds { wanted, at, held } => Course::Going {
-            place: std::num::wrapping_add_u64(place, 1),
+            place: place.wrapping_add(1),
             stage: Stage::Joining { wanted, held },
             same: agrees_on(same, message, at as usize, block),
         },
@@ -269,7 +247,7 @@ pub fn comes_to(course: Course) -> Judgement
 }
 
 // Where a run begins: no PDU was judged, the channel is open and idle, and nothing is left.
-pub fn begin() -> Stand
+pub fn begin() -> Stand<Course>
     ensures { result ≡ at_first }
 {
     Stand {
@@ -282,42 +260,15 @@ pub fn begin() -> Stand
     }
 }
 
-// Walks through the whole records at the front of the input.
-fn walk(number: u32, message: &[u8], course: Course, input: &[u8]) -> Walked
-    ensures course_value { result.course ≡ course_over number message.now course (pdus_in input.now) }
-    ensures taken_value { (result.taken ≡ size_of (records_of whole_of input.now)) × (result.taken ≤ length input.now) }
-{
-    let mut next = course;
-    let mut at = 0;
-    while at < input.len() {
-        let n = records::whole(&input[at..]);
-        if n == 0 {
-            break;
-        }
-        let end = at + n;
-        next = judge(number, message, next, &input[at + LENGTH..end]);
-        at = end;
-    }
-    Walked {
-        course: next,
-        taken: at,
-    }
-}
-
 // Judges the whole records of the input that is there, what was left and behind it what was read. What is left then comes to
 // the front.
-pub fn turn(number: u32, message: &[u8], course: Course, input: &mut [u8]) -> Stand
+pub fn turn(number: u32, message: &[u8], course: Course, input: &mut [u8]) -> Stand<Course>
     ensures value { (result ≡ turned number message.now course input.old) × (result.had ≤ length input.old) }
     ensures input_after { input.new ≡ laid input.old 0 (rest_of whole_of input.old) }
 {
-    let walked = walk(number, message, course, input);
-    let taken = walked.taken;
-    lists::to_front(input, taken);
-    let course = walked.course;
-    Stand {
-        course,
-        had: input.len() - taken,
-    }
+    records::turn(course, &mut [], input, |course, _, pdu| {
+        judge(number, message, course, pdu)
+    })
 }
 
 // How many bytes stand before the PDUs, as far as those that are there can tell.
@@ -331,21 +282,22 @@ pub fn head_needs(head: &[u8]) -> usize
     HEAD + message as usize
 }
 
-// The word of a reason, which ends the line, from a place on.
-fn word(out: &mut [u8], at: usize, why: Reason) -> usize
-    ensures value { (result ≡ length (reason_field why)) × (result ≤ REASON_MAX) }
-    ensures out_after { out.new ≡ laid out.old at (reason_field why) }
+// The word of a reason, which ends the line.
+#[tactic(auto, unfolding(crate::specs::Sender::reason_field))]
+fn word(why: Reason) -> &'static [u8]
+    ensures { (result.now ≡ reason_field why) × (length result.now ≤ REASON_MAX) }
 {
     match why {
-        Reason::Reading => lines::text(out, at, b"reading\n"),
-        Reason::Kind => lines::text(out, at, b"kind\n"),
-        Reason::OtherChannel => lines::text(out, at, b"channel\n"),
-        Reason::Steps => lines::text(out, at, b"steps\n"),
-        Reason::Before => lines::text(out, at, b"before\n"),
+        Reason::Reading => b"reading\n",
+        Reason::Kind => b"kind\n",
+        Reason::OtherChannel => b"channel\n",
+        Reason::Steps => b"steps\n",
+        Reason::Before => b"before\n",
     }
 }
 
 // The line of a judgement, at the front of the buffer. Answers its length.
+#[tactic(auto, unfolding(crate::specs::Sender::judgement_line))]
 pub fn line(out: &mut [u8], judgement: Judgement) -> usize
     ensures value { (result ≡ length (judgement_line judgement)) × (result ≤ LINE_MAX) }
     ensures out_after { out.new ≡ laid out.old 0 (judgement_line judgement) }
@@ -353,9 +305,11 @@ pub fn line(out: &mut [u8], judgement: Judgement) -> usize
     match judgement {
         Judgement::Yes => lines::text(out, 0, b"yes\n"),
         Judgement::No { place, why } => {
-            let said = lines::text(out, 0, b"no ");
-            let placed = said + lines::field(out, said, place, b' ');
-            placed + word(out, placed, why)
+            let mut pen = Pen { out, at: 0 };
+            pen.text(b"no ");
+            pen.field(place, b' ');
+            pen.text(word(why));
+            pen.at
         }
         Judgement::Early => lines::text(out, 0, b"no early\n"),
         Judgement::Differs => lines::text(out, 0, b"no bytes\n"),

@@ -1,6 +1,7 @@
 -- "Our own cutter's list must get a yes": it hands up its message where the channel is open and idle (demands/Cut), and that is judged a
 -- yes.
 -- Assumes nothing.
+use Rattle.std.specs.Prelude.{Ok}
 use Prim.Native.Nat.{ℕ, ◌≤◌, ◌<◌}
 use mathlib.Core.Path.{◌≡◌, refl, ap, ◌∙◌}
 use mathlib.Core.Bool.{Bool, true, false, cond}
@@ -10,8 +11,7 @@ use lib.ListN.{length, take}
 use Rattle.paper.specs.Sizes.{MESSAGE_MAX}
 use Rattle.numbers.specs.Numbers.{NUMBERS}
 use Rattle.reading.specs.Grammar.{data_first_law, data_block}
-use Rattle.cutting.specs.Cutting.{is_first, block, cut_pdu, cut_at, cut_buffer}
-use Rattle.cutting.specs.declared.Piece.TheVariants.{Pdu}
+use Rattle.cutting.specs.Cutting.{is_first, block, cut_pdu, cut_at, cut_buffer, piece_of}
 use Rattle.cutting.proofs.Answers.{given}
 use Rattle.cutting.proofs.Blocks.{cut_fits}
 use Rattle.connection.specs.States.{State}
@@ -46,7 +46,7 @@ module _ (n : ℕ) (m : List ℕ) (small : n < NUMBERS) (lent : ℕ → List ℕ
       go true = eq-eqb n n refl
       go false = eq-eqb n n refl
 
-  own : (at len next : ℕ) → cut_at n m at (lent at) ≡ Pdu len next → is_of n (event_of_pdu (take len (cut_buffer n m at (lent at)))) ≡ true
+  own : (at len next : ℕ) → cut_at n m at (lent at) ≡ Ok (piece_of len next) → is_of n (event_of_pdu (take len (cut_buffer n m at (lent at)))) ≡ true
   own at len next e = let g = given n m at (lent at) len next e in rw g.stands (cut_own at g.short_enough)
 
   abbrev From : ℕ → List Cut → Type 0

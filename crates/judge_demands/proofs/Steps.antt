@@ -1,5 +1,6 @@
 -- One PDU received on a channel that is open and not spoiled: what the host is told, beside what the judge's course becomes.
 -- Assumes nothing.
+use Rattle.std.specs.Prelude.{Option, None, Some}
 use Prim.Native.Nat.{ℕ, ◌+◌, ◌%◌, ◌≤◌}
 use mathlib.Core.Path.{◌≡◌, refl, sym, ap, ◌∙◌}
 use mathlib.Core.Bool.{Bool, true, false, not, ◌&&◌}
@@ -17,8 +18,6 @@ use Rattle.lists.proofs.Laid.{laid_eq}
 use Rattle.reading.specs.Reading.{read_pdu}
 use Rattle.reading.specs.Said.{bytes_at}
 use Rattle.reading.specs.Garbled.{carries}
-use Rattle.reading.specs.declared.Carried.{Carried}
-use Rattle.reading.specs.declared.Carried.TheVariants.{NoNumber, Number}
 use Rattle.reading.specs.declared.Pdu.{Pdu}
 use Rattle.reading.specs.declared.Pdu.TheVariants.{CreateRequest, CreateResponse, DataFirst, Data, Close}
 use Rattle.reading.specs.declared.Pdu.TheVariants.{CapsRequest, CapsResponse, Refused as Unread}
@@ -125,10 +124,10 @@ not_ours_create : (n m : ℕ) (list name : List ℕ) (pri : ℕ) → NotOurs n (
 unfolding create_act
 not_ours_create n m list name pri = choice (λ (a : Act). NotOurs n (Of m a)) (good_list list) (λ e. tt) (λ e. tt)
 
-not_ours_unread : (n : ℕ) (why : Refusal) (carried : Carried) → NotOurs n (unread why carried)
+not_ours_unread : (n : ℕ) (why : Refusal) (carried : Option ℕ) → NotOurs n (unread why carried)
 unfolding unread
-not_ours_unread n why NoNumber = tt
-not_ours_unread n why (Number m) = tt
+not_ours_unread n why None = tt
+not_ours_unread n why (Some m) = tt
 
 -- ---- what a block does
 

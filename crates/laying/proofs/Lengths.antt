@@ -1,16 +1,18 @@
 -- How long each PDU is.
 -- Assumes nothing.
-use mathlib.Core.Path.{◌≡◌}
+use mathlib.Core.Path.{◌≡◌, refl}
 use mathlib.Core.Bool.{Bool, true, false, cond}
-use mathlib.Core.List.{List, ◌++◌}
+use mathlib.Core.List.{List, [], ◌∷◌, ◌++◌}
 use Prim.Native.Nat.{ℕ, ◌+◌, ◌≤◌}
 use native.Mathlib.Omega.{arith}
 use lib.Dec.{eqb}
 use lib.IntN.{ℤ}
-use lib.ListN.{length, length-append}
+use lib.ListN.{length, take, length-append}
 use Rattle.reading.specs.declared.Charges.{Charges}
 use Rattle.numbers.specs.Numbers.{bytes_of, narrowest}
-use Rattle.numbers.proofs.Widths.{length_bytes_of, length_narrow, narrowest_le}
+use Rattle.lists.specs.Bytes.{laid}
+use Rattle.lists.proofs.Laid.{laid_next}
+use Rattle.numbers.proofs.Widths.{length_bytes_of, length_narrow, low_bytes, narrowest_le, code_le}
 use Rattle.numbers.proofs.Signs.{length_status}
 use Rattle.laying.specs.Laying.{head_of, create_request_bytes, create_response_bytes, data_first_head, data_first_bytes}
 use Rattle.laying.specs.Laying.{data_bytes, close_bytes, caps_head, caps_request_bytes, caps_response_bytes}
@@ -67,3 +69,19 @@ length_caps_request version charges = go (eqb version 1)
         charges.class2) ++ bytes_of 2 charges.class3)) ≡ cond t 4 12
     go true = length_caps_head version
     go false = simp (length-append, length_bytes_of, length_caps_head)
+
+-- a number of two bytes
+pub short_bytes : (v : ℕ) → take 2 (bytes_of 4 v) ≡ bytes_of 2 v
+short_bytes v = low_bytes 2 4 v (omega arith)
+
+-- a buffer that begins with one byte, or with two, and goes on
+pub laid_first : (out mid after : List ℕ) (b : ℕ) (cs : List ℕ) → mid ≡ laid out 0 (b ∷ []) → after ≡ laid mid 1 cs → after ≡ laid out 0 (b ∷ cs)
+laid_first out mid after b cs e f = laid_next out mid after (b ∷ []) cs 1 refl e f
+
+pub laid_second : (out mid after : List ℕ) (a b : ℕ) (cs : List ℕ) → mid ≡ laid out 0 (a ∷ b ∷ []) → after ≡ laid mid 2 cs → after ≡ laid out 0 (a ∷ b ∷ cs)
+laid_second out mid after a b cs e f = laid_next out mid after (a ∷ b ∷ []) cs 2 refl e f
+
+-- what is laid rests on these: what stands in front, and how long it is
+pub ruleset numbering = (length_narrow, low_bytes, narrowest_le)
+
+pub ruleset laying = (laid_next, laid_first, laid_second, length-append, length_narrow, narrowest_le, code_le, head_le, length_first_head, length_caps_head, length_status, length_bytes_of)

@@ -2,7 +2,8 @@
 //
 // Each function lays the PDU that specs/Laying gives for its values, and answers the PDU's length. Bytes of the buffer
 // behind it stay. A buffer that is too short gets as much of it as it has room for. None refuses: what may be written,
-// and in what buffer, is judged by the callers.
+// and in what buffer, is judged by the callers. A place in the buffer is a plain number: a cursor's contract would name, as these do,
+// what is laid and how long that is.
 #![tactic(auto)]
 
 ghost use Rattle.std.specs.Prelude.{◌≡◌};
@@ -16,6 +17,7 @@ use paper::{CAPABILITIES, CLOSE, CREATE, DATA, DATA_FIRST};
 use reading::Charges;
 
 // A number in its narrowest width, from a place on. Answers the width.
+#[tactic(auto, using(crate::proofs::Lengths::numbering), unfolding(numbers::specs::Numbers::narrow_bytes))]
 fn narrowed(out: &mut [u8], at: usize, value: u32) -> usize
     ensures value { result ≡ ListN.length (narrow_bytes value) }
     ensures out_after { out.new ≡ laid out.old at (narrow_bytes value) }
@@ -26,13 +28,15 @@ fn narrowed(out: &mut [u8], at: usize, value: u32) -> usize
 }
 
 // A number of two bytes, from a place on.
+#[tactic(auto, using(crate::proofs::Lengths::short_bytes))]
 fn short(out: &mut [u8], at: usize, value: u16)
     ensures { out.new ≡ laid out.old at (bytes_of 2 value) }
 {
-    numbers::put(out, at, 2, value as u32);
+    numbers::put(out, at, 2, u32::from(value));
 }
 
 // The first byte and the channel number.
+#[tactic(auto, using(crate::proofs::Lengths::laying), unfolding(crate::specs::Laying::head_of))]
 fn head(out: &mut [u8], cmd: u8, middle: u8, number: u32) -> usize
     ensures value { result ≡ ListN.length (head_of cmd middle number) }
     ensures out_after { out.new ≡ laid out.old 0 (head_of cmd middle number) }
@@ -43,6 +47,7 @@ fn head(out: &mut [u8], cmd: u8, middle: u8, number: u32) -> usize
 }
 
 // A Create request: the name and one zero byte.
+#[tactic(auto, using(crate::proofs::Lengths::laying), unfolding(crate::specs::Laying::create_request_bytes))]
 pub fn create_request(out: &mut [u8], number: u32, class: u8, name: &[u8]) -> usize
     ensures value { result ≡ ListN.length (create_request_bytes number class name.now) }
     ensures out_after { out.new ≡ laid out.old 0 (create_request_bytes number class name.now) }
@@ -55,6 +60,7 @@ pub fn create_request(out: &mut [u8], number: u32, class: u8, name: &[u8]) -> us
 }
 
 // A Create response.
+#[tactic(auto, using(crate::proofs::Lengths::laying), unfolding(crate::specs::Laying::create_response_bytes))]
 pub fn create_response(out: &mut [u8], number: u32, status: i32) -> usize
     ensures value { result ≡ ListN.length (create_response_bytes number status) }
     ensures out_after { out.new ≡ laid out.old 0 (create_response_bytes number status) }
@@ -66,6 +72,7 @@ pub fn create_response(out: &mut [u8], number: u32, status: i32) -> usize
 }
 
 // The head of a Data First and its Length.
+#[tactic(auto, using(crate::proofs::Lengths::laying), unfolding(crate::specs::Laying::data_first_head))]
 fn first_head(out: &mut [u8], number: u32, length: u32) -> usize
     ensures value { result ≡ ListN.length (data_first_head number length) }
     ensures out_after { out.new ≡ laid out.old 0 (data_first_head number length) }
@@ -75,6 +82,7 @@ fn first_head(out: &mut [u8], number: u32, length: u32) -> usize
 }
 
 // A Data First with any Length.
+#[tactic(auto, using(crate::proofs::Lengths::laying), unfolding(crate::specs::Laying::data_first_bytes))]
 pub fn data_first(out: &mut [u8], number: u32, length: u32, block: &[u8]) -> usize
     ensures value { result ≡ ListN.length (data_first_bytes number length block.now) }
     ensures out_after { out.new ≡ laid out.old 0 (data_first_bytes number length block.now) }
@@ -85,6 +93,7 @@ pub fn data_first(out: &mut [u8], number: u32, length: u32, block: &[u8]) -> usi
 }
 
 // A Data.
+#[tactic(auto, using(crate::proofs::Lengths::laying), unfolding(crate::specs::Laying::data_bytes))]
 pub fn data(out: &mut [u8], number: u32, block: &[u8]) -> usize
     ensures value { result ≡ ListN.length (data_bytes number block.now) }
     ensures out_after { out.new ≡ laid out.old 0 (data_bytes number block.now) }
@@ -95,6 +104,7 @@ pub fn data(out: &mut [u8], number: u32, block: &[u8]) -> usize
 }
 
 // A Close.
+#[tactic(auto, using(crate::proofs::Lengths::laying), unfolding(crate::specs::Laying::close_bytes))]
 pub fn close(out: &mut [u8], number: u32) -> usize
     ensures value { result ≡ ListN.length (close_bytes number) }
     ensures out_after { out.new ≡ laid out.old 0 (close_bytes number) }
@@ -103,6 +113,7 @@ pub fn close(out: &mut [u8], number: u32) -> usize
 }
 
 // The first byte, Pad and Version of a Capabilities PDU.
+#[tactic(auto, using(crate::proofs::Lengths::laying), unfolding(crate::specs::Laying::caps_head))]
 fn caps_head(out: &mut [u8], version: u16)
     ensures { out.new ≡ laid out.old 0 (caps_head version) }
 {
@@ -112,6 +123,7 @@ fn caps_head(out: &mut [u8], version: u16)
 }
 
 // A Capabilities request: version 1 has no charges.
+#[tactic(auto, using(crate::proofs::Lengths::laying), unfolding(crate::specs::Laying::caps_request_bytes))]
 pub fn capabilities_request(out: &mut [u8], version: u16, charges: Charges) -> usize
     ensures value { result ≡ ListN.length (caps_request_bytes version charges) }
     ensures out_after { out.new ≡ laid out.old 0 (caps_request_bytes version charges) }
@@ -128,6 +140,7 @@ pub fn capabilities_request(out: &mut [u8], version: u16, charges: Charges) -> u
 }
 
 // A Capabilities response.
+#[tactic(auto, using(crate::proofs::Lengths::laying), unfolding(crate::specs::Laying::caps_response_bytes))]
 pub fn capabilities_response(out: &mut [u8], version: u16) -> usize
     ensures value { result ≡ ListN.length (caps_response_bytes version) }
     ensures out_after { out.new ≡ laid out.old 0 (caps_response_bytes version) }

@@ -1,16 +1,13 @@
 -- The laws of decimal digits.
 -- Assumes nothing.
-use mathlib.Core.Path.{◌≡◌, refl, ◌∙◌}
+use mathlib.Core.Path.{◌≡◌, refl, sym}
 use mathlib.Core.Logic.{⊎_elim}
 use mathlib.Core.List.{List, [], ◌∷◌, ◌++◌}
 use Prim.Native.Nat.{ℕ, zero, suc, ◌+◌, ◌-◌, ◌*◌, ◌^◌, ◌/◌, ◌%◌, ◌≤◌, ◌<◌}
-use native.Mathlib.Nat.{pow-suc, div-lt_iff_lt-mul}
-use native.Mathlib.Numerals.{add-one}
 use native.Mathlib.Omega.{arith}
 use borrow.Author.Tests.{lt-ltb, le-ltb}
-use lib.Dec.{lit<}
-use lib.ListN.{length, drop, set}
-use lib.Seq.{drop-cons, drop-set-lt, get_or-set_same, lt-length-set}
+use Rattle.std.specs.Fmt as std
+use Rattle.std.proofs.lemmas.Fmt.{decimal_by_steps}
 use Rattle.lists.proofs.Cases.{lt_or_le}
 use Rattle.lines.specs.Decimal.{digit, digits_in, decimal, spelt}
 
@@ -35,19 +32,12 @@ pub decimal_more : (n : ℕ) → 10 ≤ n → decimal n ≡ decimal (n / 10) ++ 
 unfolding decimal digits_in
 decimal_more n h = rw (le-ltb n 10 h, digits_any n (suc (n / 10)) (n / 10) (omega arith) (omega arith))
 
--- a number of more than one digit takes more than one place, and its tenth one fewer
-pub tenth : (n i : ℕ) → 9 < n → n < 10 ^ i → (1 < i) × (n / 10 < 10 ^ (i - 1))
-tenth n zero h g = absurd (omega arith)
-tenth n (suc zero) h g = absurd (omega arith)
-tenth n (suc (suc i)) h g =
-    let e : suc (suc i) - 1 ≡ suc i = omega arith in
-    (omega arith, rw e ((div-lt_iff_lt-mul (lit< tt)).1 (rw pow-suc at g)))
-
--- a byte put in front of what stands from a place on
-pub drop_set : (l : List ℕ) (i a : ℕ) → i < length l → drop i (set l i a) ≡ a ∷ drop (i + 1) l
-drop_set l i a h =
-    drop-cons (set l i a) i 0 (lt-length-set l i a h)
-    ∙ rw (get_or-set_same l i a 0 h, drop-set-lt (suc i) l i a (omega arith), add-one i)
+-- the digits are those that the library writes
+pub decimal_std : (n : ℕ) → n < 2 ^ 64 → std.decimal n ≡ decimal n
+decimal_std = decimal_by_steps
+    (λ m ds. ds ≡ decimal m)
+    (λ m l. sym (decimal_one m l))
+    (λ m ds l h. rw h (sym (decimal_more m l)))
 
 -- ---- the digits are the number's
 

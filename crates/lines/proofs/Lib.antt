@@ -2,3 +2,4 @@ pub mod Decimal
 pub mod Ends
 pub mod Spelling
 pub mod One
+pub mod Pens

@@ -9,6 +9,8 @@ use Rattle.lines.proofs.channel.Reads as channel
 use Rattle.lines.proofs.header.Reads as header
 use Rattle.lines.proofs.answer.Reads as answer
 use Rattle.lines.proofs.line.Reads as line
+use Rattle.lines.proofs.answer_line.Reads as answer-line
+use Rattle.lines.proofs.placed.Reads as placed
 use Rattle.lines.proofs.cut_line.Reads as cut-Line
 use Rattle.lines.proofs.message_line.Reads as message-line
 use Rattle.lines.proofs.hex_byte.Reads as hex-byte
@@ -39,9 +41,17 @@ pub answer_one : (κs : _) (a : _) (r r' : _) (s s' : _) → answer.Post κs a r
     → (r ≡ r') × (s.0.now ≡ s'.0.now)
 answer_one κs a r r' s s' p q = (same p.0.0 q.0.0, same p.1 q.1)
 
+pub answer_line_one : (κs g h b c e d l a : _) (r r' : _) (s s' : _) → answer-line.Post κs g h b c e d l a r s → answer-line.Post κs g h b c e d l a r' s'
+    → (r ≡ r') × (s.0.now ≡ s'.0.now)
+answer_line_one κs g h b c e d l a r r' s s' p q = (same p.0.0 q.0.0, same p.1 q.1)
+
 pub line_one : (κs : _) (a : _) (r r' : _) (s s' : _) → line.Post κs a r s → line.Post κs a r' s'
     → (r ≡ r') × (s.0.now ≡ s'.0.now)
 line_one κs a r r' s s' p q = (same p.0.0 q.0.0, same p.1 q.1)
+
+pub placed_one : (κs : _) (a : _) (r r' : _) (s s' : _) → placed.Post κs a r s → placed.Post κs a r' s'
+    → (r ≡ r') × (s.0.now ≡ s'.0.now)
+placed_one κs a r r' s s' p q = (same p.0.0 q.0.0, same p.1 q.1)
 
 pub cut_line_one : (κs : _) (a : _) (r r' : _) (s s' : _) → cut-Line.Post κs a r s → cut-Line.Post κs a r' s'
     → (r ≡ r') × (s.0.now ≡ s'.0.now)

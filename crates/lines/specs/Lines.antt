@@ -1,10 +1,8 @@
 -- The lines that the programs print. The walker's: "Fields: place from 0; answer [..]; channel, `-` for ready and refusals 1 to 7;
 -- number [..]; reply length." The text is ASCII: single spaces, decimal numbers, one LF (10) at the end.
-use Rattle.std.specs.Prelude.{ℕ, ◌+◌, ◌*◌, cond, List, [], ◌∷◌, ◌++◌, eqb, take}
+use Rattle.std.specs.Prelude.{ℕ, ◌+◌, ◌*◌, cond, List, [], ◌∷◌, ◌++◌, eqb, take, Option, None, Some}
 use Rattle.paper.specs.Sizes.{MESSAGE_MAX}
 pub use Rattle.lists.specs.Lines.{LF}
-use Rattle.channel.specs.declared.Concern.{Concern}
-use Rattle.channel.specs.declared.Concern.TheVariants.{NoChannel, Channel}
 use Rattle.channel.specs.declared.Answer.{Answer}
 use Rattle.channel.specs.Answers.{Word, ready, opened, declined, held, message, closed, ignored, refused, word_of}
 use Rattle.channel.specs.Answers.{concern_of, number_of}
@@ -44,21 +42,32 @@ word_field ignored = 105 ∷ 103 ∷ 110 ∷ 111 ∷ 114 ∷ 101 ∷ 100 ∷ 32 
 word_field refused = 114 ∷ 101 ∷ 102 ∷ 117 ∷ 115 ∷ 101 ∷ 100 ∷ 32 ∷ []
 
 -- the channel, "`-` for ready and refusals 1 to 7"
-unfoldable pub channel_field : Concern → List ℕ
-channel_field NoChannel = 45 ∷ SPACE ∷ []
-channel_field (Channel n) = field n SPACE
+unfoldable pub channel_field : Option ℕ → List ℕ
+channel_field None = 45 ∷ SPACE ∷ []
+channel_field (Some n) = field n SPACE
+
+-- the fields of what an end answers: a word's field, the channel, a number, and the length of what is sent with the byte that ends it
+unfoldable pub fields_text : List ℕ → Option ℕ → ℕ → ℕ → ℕ → List ℕ
+fields_text word concern number sent end = ((word ++ channel_field concern) ++ field number SPACE) ++ field sent end
 
 -- the fields of an answer, and a byte that ends them: "answer [..]; channel [..]; number [..]; reply length"
 unfoldable pub answer_fields : Answer → ℕ → ℕ → List ℕ
-answer_fields answer sent end =
-    ((word_field (word_of answer) ++ channel_field (concern_of answer)) ++ field (number_of answer) SPACE) ++ field sent end
+answer_fields answer sent end = fields_text (word_field (word_of answer)) (concern_of answer) (number_of answer) sent end
+
+-- the line of what an end answers: its place, and its fields
+unfoldable pub answer_line : ℕ → List ℕ → Option ℕ → ℕ → ℕ → List ℕ
+answer_line place word concern number sent = field place SPACE ++ fields_text word concern number sent LF
 
 unfoldable pub line_of : ℕ → Answer → ℕ → List ℕ
 line_of place answer sent = field place SPACE ++ answer_fields answer sent LF
 
+-- a place, and a word with its end
+unfoldable pub placed_line : ℕ → List ℕ → List ℕ
+placed_line place word = field place SPACE ++ word
+
 -- "A last record cut short prints its place and `cut`, and ends the run."
 unfoldable pub cut_line_of : ℕ → List ℕ
-cut_line_of place = field place SPACE ++ (99 ∷ 117 ∷ 116 ∷ 10 ∷ [])
+cut_line_of place = placed_line place (99 ∷ 117 ∷ 116 ∷ 10 ∷ [])
 
 -- "pdu reading"
 unfoldable pub reading_header : List ℕ

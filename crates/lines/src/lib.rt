@@ -1,25 +1,32 @@
 // The text of the programs' lines.
 //
+// A `Pen` has a buffer and a place in it, and lays text after text there: a number's field, a channel, the fields of an answer, bytes.
+// What an answer is to a line, its word, channel, number and message, is the trait `Spoken`, which the client's answer has here.
+//
 // `header` lays the walker's first line, `line` the line of one PDU from its place, its answer and its reply's length, `answer`
-// the same without its place, `cut_line` the line of a last record that is cut short; `message_line` lays the line of a message handed up;
+// the same without its place, `answer_line` the same for any answer that is `Spoken`, `cut_line` the line of a last record that is
+// cut short, and `placed` that of a place and any such word; `message_line` lays the line of a message handed up;
 // `reading_header` and `reading_line` lay the lines of PDUs that are only read, `totals_header` and `totals_line` those of
 // the connection's totals. Each lays its bytes at the front of a
-// buffer and answers how many there are; `field`, `channel`, `text`, `bytes_field` and `refused`, of which lines are made, lay theirs from a
-// place on, and `hex_byte` gives its two. Bytes of the buffer behind them stay. A buffer that is too short gets as much as it has room for.
+// buffer and answers how many there are; `field`, `channel`, `text`, `bytes_field` and `refused`, of which lines are made, lay theirs from
+// any place on, and `hex_byte` gives its two. Bytes of the buffer behind them stay. A buffer that is too short gets as much as it has room for.
 #![tactic(auto)]
 
-ghost use Rattle.std.specs.Prelude.{◌≡◌, ◌+◌, ◌*◌, ◌≤◌, ◌<◌, length, take, drop};
+ghost use Rattle.std.specs.Prelude.{◌≡◌, ℕ, ◌+◌, ◌*◌, ◌^◌, ◌≤◌, ◌<◌, List, Option, length, take, drop};
 ghost use Rattle.paper.specs.Sizes.{MESSAGE_MAX};
 ghost use Rattle.lists.specs.Bytes.{laid};
-ghost use Rattle.channel.specs.Answers.{word_of};
+ghost use Rattle.channel.specs.Answers.{word_of, concern_of, number_of};
 ghost use Rattle.lines.specs.Decimal.{FIELD_MAX, field};
 ghost use Rattle.lines.specs.Hex.{hex_digit, hex_byte, hex_of, bytes_field};
-ghost use Rattle.lines.specs.Lines.{WORD_MAX, ANSWER_MAX, LINE_MAX, header_line, word_field, channel_field};
-ghost use Rattle.lines.specs.Lines.{answer_fields, line_of, cut_line_of};
+ghost use Rattle.lines.specs.Lines.{WORD_MAX, ANSWER_MAX, LINE_MAX, header_line, word_field, channel_field, fields_text};
+ghost use Rattle.lines.specs.Lines.{answer_fields, answer_line, line_of, placed_line, cut_line_of};
 ghost use Rattle.lines.specs.Lines.{message_line_of, MESSAGE_LINE_MAX, reading_header, REFUSED_MAX, refused_line, verdict_field, reading_line_of};
 ghost use Rattle.lines.specs.Lines.{totals_header, totals_line_of};
+ghost use Rattle.lines.specs.Pen.{Writes};
+ghost use Rattle.lines.specs.declared.Handed.{Handed};
+ghost use Rattle.lines.specs.Spoken.{message_of};
 
-use channel::{Answer, Concern};
+use channel::Answer;
 use paper::MESSAGE_MAX;
 
 // A number's field has at most twenty digits and the byte that ends it.
@@ -40,41 +47,14 @@ pub const REFUSED_MAX: usize = WORD_MAX + FIELD_MAX;
 // The most bytes that a message's line has: two numbers, two digits a byte, and its end.
 pub const MESSAGE_LINE_MAX: usize = 2 * FIELD_MAX + 2 * MESSAGE_MAX + 1;
 
-// A field, at the end of its scratch.
-#[derive(Clone, Copy)]
-struct Digits {
-    bytes: [u8; FIELD_MAX],
-    start: usize,
-}
-
-// The number's decimal digits and the byte that ends them.
-fn spelled(n: u64, end: u8) -> Digits
-    ensures { (result.start < FIELD_MAX) × (length result.bytes ≡ FIELD_MAX) × (drop result.start result.bytes ≡ field n end) }
-{
-    let mut bytes = [0u8; FIELD_MAX];
-    bytes[FIELD_MAX - 1] = end;
-    let mut i = FIELD_MAX - 1;
-    let mut rest = n;
-    while 9 < rest {
-        i -= 1;
-        bytes[i] = 48 + (rest % 10) as u8;
-        rest = rest / 10;
-    }
-    i -= 1;
-    bytes[i] = 48 + rest as u8;
-    Digits { bytes, start: i }
-}
-
 // A number's field, from a place on. Answers its length.
 pub fn field(out: &mut [u8], at: usize, n: u64, end: u8) -> usize
     ensures value { (result ≡ length (field n end)) × (result ≤ FIELD_MAX) }
     ensures out_after { out.new ≡ laid out.old at (field n end) }
 {
-    let spelled = spelled(n, end);
-    let bytes = spelled.bytes;
-    let start = spelled.start;
-    lists::copy_at(out, at, &bytes[start..]);
-    FIELD_MAX - start
+    let mut bytes = [end; FIELD_MAX];
+    let start = itoa::write_digits(n, &mut bytes, FIELD_MAX - 1);
+    text(out, at, &bytes[start..])
 }
 
 // Text, from a place on. Answers its length.
@@ -86,78 +66,15 @@ pub fn text(out: &mut [u8], at: usize, bytes: &[u8]) -> usize
     bytes.len()
 }
 
-// The answer's word and a space, from a place on.
-fn word(out: &mut [u8], at: usize, answer: Answer) -> usize
-    ensures value { (result ≡ length (word_field (word_of answer))) × (result ≤ WORD_MAX) }
-    ensures out_after { out.new ≡ laid out.old at (word_field (word_of answer)) }
-{
-    match answer {
-        Answer::Ready { level: _ } => text(out, at, b"ready "),
-        Answer::Opened { number: _ } => text(out, at, b"opened "),
-        Answer::Declined { number: _, why: _ } => text(out, at, b"declined "),
-        Answer::Held { number: _, left: _ } => text(out, at, b"held "),
-        Answer::Message { number: _, len: _ } => text(out, at, b"message "),
-        Answer::Closed { number: _ } => text(out, at, b"closed "),
-        Answer::Ignored { number: _ } => text(out, at, b"ignored "),
-        Answer::Refused { why: _, concern: _ } => text(out, at, b"refused "),
-    }
-}
-
 // The channel's number and a space, or `- `, from a place on. Answers its length.
-pub fn channel(out: &mut [u8], at: usize, concern: Concern) -> usize
+pub fn channel(out: &mut [u8], at: usize, concern: Option<u32>) -> usize
     ensures value { (result ≡ length (channel_field concern)) × (result ≤ FIELD_MAX) }
     ensures out_after { out.new ≡ laid out.old at (channel_field concern) }
 {
     match concern {
-        Concern::NoChannel => text(out, at, b"- "),
-        Concern::Channel(n) => field(out, at, n as u64, b' '),
+        None => text(out, at, b"- "),
+        Some(n) => field(out, at, n as u64, b' '),
     }
-}
-
-// The first line, which names the fields.
-pub fn header(out: &mut [u8]) -> usize
-    ensures value { (result ≡ length header_line) × (result ≤ LINE_MAX) }
-    ensures out_after { out.new ≡ laid out.old 0 header_line }
-{
-    text(out, 0, b"pdu answer channel number reply\n")
-}
-
-// The fields of an answer, from a place on: its word, channel and number, and the reply's length with the byte that ends them.
-fn fields(out: &mut [u8], at: usize, answer: Answer, sent: usize, end: u8) -> usize
-    requires { at ≤ FIELD_MAX }
-    ensures value { (result ≡ length (answer_fields answer sent end)) × (result ≤ ANSWER_MAX) }
-    ensures out_after { out.new ≡ laid out.old at (answer_fields answer sent end) }
-{
-    let worded = word(out, at, answer);
-    let concerned = worded + channel(out, at + worded, channel::concerns(answer));
-    let valued = concerned + field(out, at + concerned, channel::value(answer), b' ');
-    valued + field(out, at + valued, sent as u64, end)
-}
-
-// The fields of an answer, with the byte that ends them.
-pub fn answer(out: &mut [u8], answer: Answer, sent: usize, end: u8) -> usize
-    ensures value { (result ≡ length (answer_fields answer sent end)) × (result ≤ ANSWER_MAX) }
-    ensures out_after { out.new ≡ laid out.old 0 (answer_fields answer sent end) }
-{
-    fields(out, 0, answer, sent, end)
-}
-
-// The line of a PDU: its place, and the fields of its answer.
-pub fn line(out: &mut [u8], place: u64, answer: Answer, sent: usize) -> usize
-    ensures value { (result ≡ length (line_of place answer sent)) × (result ≤ LINE_MAX) }
-    ensures out_after { out.new ≡ laid out.old 0 (line_of place answer sent) }
-{
-    let placed = field(out, 0, place, b' ');
-    placed + fields(out, placed, answer, sent, b'\n')
-}
-
-// The line of a last record that is cut short: its place and `cut`.
-pub fn cut_line(out: &mut [u8], place: u64) -> usize
-    ensures value { (result ≡ length (cut_line_of place)) × (result ≤ LINE_MAX) }
-    ensures out_after { out.new ≡ laid out.old 0 (cut_line_of place) }
-{
-    let placed = field(out, 0, place, b' ');
-    placed + text(out, placed, b"cut\n")
 }
 
 // A hexadecimal digit's code, lower case.
@@ -165,7 +82,7 @@ fn hex_digit(d: u8) -> u8
     requires { d < 16 }
     ensures { result ≡ hex_digit d }
 {
-    if d < 10 { 48 + d } else { 87 + d }
+    if d < 10 { b'0' + d } else { b'a' - 10 + d }
 }
 
 // A byte's two digits.
@@ -175,34 +92,231 @@ pub fn hex_byte(byte: u8) -> [u8; 2]
     [hex_digit(byte / 16), hex_digit(byte % 16)]
 }
 
-// The digits of bytes, from a place on. Answers how many there are.
-fn hex(out: &mut [u8], at: usize, bytes: &[u8]) -> usize
-    requires { length bytes.now ≤ MESSAGE_MAX }
-    ensures value { (result ≡ length (hex_of bytes.now)) × (result ≤ 2 * MESSAGE_MAX) }
-    ensures out_after { out.new ≡ laid out.old at (hex_of bytes.now) }
-{
-    let from = lists::lesser(at, out.len());
-    let mut i = 0;
-    let mut end = from;
-    while i < bytes.len() {
-        let digits = hex_byte(bytes[i]);
-        lists::copy_at(out, end, &digits);
-        end += 2;
-        i += 1;
-    }
-    end - from
+// A message that an answer hands up: its channel, and how many bytes it has.
+#[derive(Clone, Copy)]
+pub struct Handed {
+    pub number: u32,
+    pub len: usize,
 }
 
-// The bytes of a message, from a place on: `-` for none.
-fn message_bytes(out: &mut [u8], at: usize, bytes: &[u8]) -> usize
-    requires { length bytes.now ≤ MESSAGE_MAX }
-    ensures value { (result ≡ length (bytes_field bytes.now)) × (result ≤ 2 * MESSAGE_MAX) }
-    ensures out_after { out.new ≡ laid out.old at (bytes_field bytes.now) }
-{
-    if bytes.len() == 0 {
-        return text(out, at, b"-");
+// An answer that a line tells of: the client's, and the shore's.
+pub trait Spoken: Copy {
+    // Its word and a space, the channel that it concerns, its number, and the message that it hands up.
+    ghost word: { Self → List ℕ };
+
+    ghost concern: { Self → Option ℕ };
+
+    ghost number: { Self → ℕ };
+
+    ghost message: { Self → Option Handed };
+
+    fn word(self) -> &'static [u8]
+        ensures value { result.now ≡ word self }
+        ensures within { length result.now ≤ WORD_MAX };
+
+    fn concern(self) -> Option<u32>
+        ensures { result ≡ concern self };
+
+    fn number(self) -> u64
+        ensures { result ≡ number self };
+
+    fn message(self) -> Option<Handed>
+        ensures { result ≡ message self };
+}
+
+impl Spoken for Answer {
+    ghost word = { λ answer. word_field (word_of answer) };
+
+    ghost concern = { concern_of };
+
+    ghost number = { number_of };
+
+    ghost message = { message_of };
+
+    #[tactic(auto, unfolding(channel::specs::Answers::word_of, crate::specs::Lines::word_field))]
+    fn word(self) -> &'static [u8] {
+        match self {
+            Answer::Ready { .. } => b"ready ",
+            Answer::Opened { .. } => b"opened ",
+            Answer::Declined { .. } => b"declined ",
+            Answer::Held { .. } => b"held ",
+            Answer::Message { .. } => b"message ",
+            Answer::Closed { .. } => b"closed ",
+            Answer::Ignored { .. } => b"ignored ",
+            Answer::Refused { .. } => b"refused ",
+        }
     }
-    hex(out, at, bytes)
+
+    fn concern(self) -> Option<u32> {
+        channel::concerns(self)
+    }
+
+    fn number(self) -> u64 {
+        channel::value(self)
+    }
+
+    #[tactic(auto, unfolding(crate::specs::Spoken::message_of))]
+    fn message(self) -> Option<Handed> {
+        match self {
+            Answer::Message { number, len } => Some(Handed { number, len }),
+            _ => None,
+        }
+    }
+}
+
+// A buffer, and the place where its text goes on. Each method lays a text there, and the place is behind it then.
+#[derive(Drop)]
+pub struct Pen<'a> {
+    pub out: &'a mut [u8],
+    pub at: usize,
+}
+
+impl<'a> Pen<'a> {
+    pub fn text(&mut self, bytes: &[u8])
+        requires { self.old.at + length bytes.now < 2 ^ 64 }
+        ensures { Writes self.old self.new bytes.now (length bytes.now) }
+    {
+        self.at += text(self.out, self.at, bytes);
+    }
+
+    // A number's field.
+    pub fn field(&mut self, n: u64, end: u8)
+        requires { self.old.at + FIELD_MAX < 2 ^ 64 }
+        ensures { Writes self.old self.new (field n end) FIELD_MAX }
+    {
+        self.at += field(self.out, self.at, n, end);
+    }
+
+    // The channel's number and a space, or `- `.
+    pub fn channel(&mut self, concern: Option<u32>)
+        requires { self.old.at + FIELD_MAX < 2 ^ 64 }
+        ensures { Writes self.old self.new (channel_field concern) FIELD_MAX }
+    {
+        self.at += channel(self.out, self.at, concern);
+    }
+
+    // The fields of an answer: its word, channel and number, and the length of what is sent with the byte that ends them.
+    pub fn answer<T: Spoken>(&mut self, answer: T, sent: usize, end: u8)
+        requires { self.old.at + ANSWER_MAX < 2 ^ 64 }
+        ensures { Writes self.old self.new (fields_text (T.word answer) (T.concern answer) (T.number answer) sent end) ANSWER_MAX }
+    {
+        self.text(answer.word());
+        self.channel(answer.concern());
+        self.field(answer.number(), b' ');
+        self.field(sent as u64, end);
+    }
+
+    // The digits of bytes.
+    fn hex(&mut self, bytes: &[u8])
+        requires { (self.old.at + 2 * MESSAGE_MAX < 2 ^ 64) × (length bytes.now ≤ MESSAGE_MAX) }
+        ensures { Writes self.old self.new (hex_of bytes.now) (2 * MESSAGE_MAX) }
+    {
+        for &byte in bytes {
+            self.text(&hex_byte(byte));
+        }
+    }
+
+    // The bytes of a message, or `-` for none.
+    fn message_bytes(&mut self, bytes: &[u8])
+        requires { (self.old.at + 2 * MESSAGE_MAX < 2 ^ 64) × (length bytes.now ≤ MESSAGE_MAX) }
+        ensures { Writes self.old self.new (bytes_field bytes.now) (2 * MESSAGE_MAX) }
+    {
+        if bytes.len() == 0 {
+            self.text(b"-");
+            return;
+        }
+        self.hex(bytes);
+    }
+
+    // The bytes of a message or of a PDU, at most 4,096: two digits each, and `-` for none.
+    pub fn bytes(&mut self, bytes: &[u8])
+        requires { self.old.at + 2 * MESSAGE_MAX < 2 ^ 64 }
+        ensures { Writes self.old self.new (bytes_field (take MESSAGE_MAX bytes.now)) (2 * MESSAGE_MAX) }
+    {
+        let n = MESSAGE_MAX.min(bytes.len());
+        self.message_bytes(&bytes[..n]);
+    }
+
+    // `refused` and a refusal's number.
+    pub fn refused(&mut self, refusal: u8)
+        requires { self.old.at + REFUSED_MAX < 2 ^ 64 }
+        ensures { Writes self.old self.new (refused_line refusal) REFUSED_MAX }
+    {
+        self.text(b"refused ");
+        self.field(refusal as u64, b'\n');
+    }
+
+    // What reading said: `ok` where the refusal's number is 0, and else the refusal.
+    fn verdict(&mut self, refusal: u8)
+        requires { self.old.at + REFUSED_MAX < 2 ^ 64 }
+        ensures { Writes self.old self.new (verdict_field refusal) REFUSED_MAX }
+    {
+        if refusal == 0 {
+            self.text(b"ok\n");
+            return;
+        }
+        self.refused(refusal);
+    }
+}
+
+// The first line, which names the fields.
+#[tactic(auto, unfolding(crate::specs::Lines::header_line))]
+pub fn header(out: &mut [u8]) -> usize
+    ensures value { (result ≡ length header_line) × (result ≤ LINE_MAX) }
+    ensures out_after { out.new ≡ laid out.old 0 header_line }
+{
+    text(out, 0, b"pdu answer channel number reply\n")
+}
+
+// The fields of an answer, with the byte that ends them.
+pub fn answer(out: &mut [u8], answer: Answer, sent: usize, end: u8) -> usize
+    ensures value { (result ≡ length (answer_fields answer sent end)) × (result ≤ ANSWER_MAX) }
+    ensures out_after { out.new ≡ laid out.old 0 (answer_fields answer sent end) }
+{
+    let mut pen = Pen { out, at: 0 };
+    pen.answer(answer, sent, end);
+    pen.at
+}
+
+// The line of an answer: its place, and its fields.
+pub fn answer_line<T: Spoken>(out: &mut [u8], place: u64, answer: T, sent: usize) -> usize
+    ensures value { (result ≡ length (answer_line place (T.word answer) (T.concern answer) (T.number answer) sent)) × (result ≤ LINE_MAX) }
+    ensures out_after { out.new ≡ laid out.old 0 (answer_line place (T.word answer) (T.concern answer) (T.number answer) sent) }
+{
+    let mut pen = Pen { out, at: 0 };
+    pen.field(place, b' ');
+    pen.answer(answer, sent, b'\n');
+    pen.at
+}
+
+// The line of a PDU: its place, and the fields of its answer.
+#[tactic(auto, unfolding(crate::specs::Lines::line_of, crate::specs::Lines::answer_fields, crate::specs::Lines::answer_line))]
+pub fn line(out: &mut [u8], place: u64, answer: Answer, sent: usize) -> usize
+    ensures value { (result ≡ length (line_of place answer sent)) × (result ≤ LINE_MAX) }
+    ensures out_after { out.new ≡ laid out.old 0 (line_of place answer sent) }
+{
+    answer_line(out, place, answer, sent)
+}
+
+// The line of a place and a word of at most eight letters, which has its end with it.
+pub fn placed(out: &mut [u8], place: u64, word: &[u8]) -> usize
+    requires { length word.now ≤ WORD_MAX }
+    ensures value { (result ≡ length (placed_line place word.now)) × (result ≤ LINE_MAX) }
+    ensures out_after { out.new ≡ laid out.old 0 (placed_line place word.now) }
+{
+    let mut pen = Pen { out, at: 0 };
+    pen.field(place, b' ');
+    pen.text(word);
+    pen.at
+}
+
+// The line of a last record that is cut short: its place and `cut`.
+#[tactic(auto, unfolding(crate::specs::Lines::cut_line_of))]
+pub fn cut_line(out: &mut [u8], place: u64) -> usize
+    ensures value { (result ≡ length (cut_line_of place)) × (result ≤ LINE_MAX) }
+    ensures out_after { out.new ≡ laid out.old 0 (cut_line_of place) }
+{
+    placed(out, place, b"cut\n")
 }
 
 // The bytes of a message or of a PDU, at most 4,096, from a place on: two digits each, and `-` for none. Answers how many there are.
@@ -210,8 +324,10 @@ pub fn bytes_field(out: &mut [u8], at: usize, bytes: &[u8]) -> usize
     ensures value { (result ≡ length (bytes_field (take MESSAGE_MAX bytes.now))) × (result ≤ 2 * MESSAGE_MAX) }
     ensures out_after { out.new ≡ laid out.old at (bytes_field (take MESSAGE_MAX bytes.now)) }
 {
-    let n = lists::lesser(MESSAGE_MAX, bytes.len());
-    message_bytes(out, at, &bytes[..n])
+    let from = at.min(out.len());
+    let mut pen = Pen { out, at: from };
+    pen.bytes(bytes);
+    pen.at - from
 }
 
 // The line of a message handed up: the place of the record that brought it, its channel, and its bytes, at most 4,096.
@@ -219,13 +335,16 @@ pub fn message_line(out: &mut [u8], place: u64, number: u32, bytes: &[u8]) -> us
     ensures value { (result ≡ length (message_line_of place number bytes.now)) × (result ≤ MESSAGE_LINE_MAX) }
     ensures out_after { out.new ≡ laid out.old 0 (message_line_of place number bytes.now) }
 {
-    let placed = field(out, 0, place, b' ');
-    let numbered = placed + field(out, placed, number as u64, b' ');
-    let told = numbered + bytes_field(out, numbered, bytes);
-    told + text(out, told, b"\n")
+    let mut pen = Pen { out, at: 0 };
+    pen.field(place, b' ');
+    pen.field(number as u64, b' ');
+    pen.bytes(bytes);
+    pen.text(b"\n");
+    pen.at
 }
 
 // The first line of a run that only reads.
+#[tactic(auto, unfolding(crate::specs::Lines::reading_header))]
 pub fn reading_header(out: &mut [u8]) -> usize
     ensures value { (result ≡ length reading_header) × (result ≤ LINE_MAX) }
     ensures out_after { out.new ≡ laid out.old 0 reading_header }
@@ -233,37 +352,30 @@ pub fn reading_header(out: &mut [u8]) -> usize
     text(out, 0, b"pdu reading\n")
 }
 
-// `refused` and a refusal's number, from a place on. Answers its length.
+// `refused` and a refusal's number, from a place on. Answers its length. Any number may be told, so it is no `Refusal`.
 pub fn refused(out: &mut [u8], at: usize, refusal: u8) -> usize
     ensures value { (result ≡ length (refused_line refusal)) × (result ≤ REFUSED_MAX) }
     ensures out_after { out.new ≡ laid out.old at (refused_line refusal) }
 {
-    let from = lists::lesser(at, out.len());
-    let worded = text(out, from, b"refused ");
-    worded + field(out, from + worded, refusal as u64, b'\n')
+    let from = at.min(out.len());
+    let mut pen = Pen { out, at: from };
+    pen.refused(refusal);
+    pen.at - from
 }
 
-// What reading said, from a place on: `ok` where the refusal's number is 0, and else the refusal.
-fn verdict(out: &mut [u8], at: usize, refusal: u8) -> usize
-    ensures value { (result ≡ length (verdict_field refusal)) × (result ≤ REFUSED_MAX) }
-    ensures out_after { out.new ≡ laid out.old at (verdict_field refusal) }
-{
-    if refusal == 0 {
-        return text(out, at, b"ok\n");
-    }
-    refused(out, at, refusal)
-}
-
-// The line of a PDU that was read: its place, and what reading said of it.
+// The line of a PDU that was read: its place, and what reading said of it. Any number may be told, so it is no `Option<Refusal>`.
 pub fn reading_line(out: &mut [u8], place: u64, refusal: u8) -> usize
     ensures value { (result ≡ length (reading_line_of place refusal)) × (result ≤ LINE_MAX) }
     ensures out_after { out.new ≡ laid out.old 0 (reading_line_of place refusal) }
 {
-    let placed = field(out, 0, place, b' ');
-    placed + verdict(out, placed, refusal)
+    let mut pen = Pen { out, at: 0 };
+    pen.field(place, b' ');
+    pen.verdict(refusal);
+    pen.at
 }
 
 // The first line of the totals.
+#[tactic(auto, unfolding(crate::specs::Lines::totals_header))]
 pub fn totals_header(out: &mut [u8]) -> usize
     ensures value { (result ≡ length totals_header) × (result ≤ LINE_MAX) }
     ensures out_after { out.new ≡ laid out.old 0 totals_header }
@@ -276,7 +388,9 @@ pub fn totals_line(out: &mut [u8], place: u64, channels: u32, awaited: u32) -> u
     ensures value { (result ≡ length (totals_line_of place channels awaited)) × (result ≤ LINE_MAX) }
     ensures out_after { out.new ≡ laid out.old 0 (totals_line_of place channels awaited) }
 {
-    let placed = field(out, 0, place, b' ');
-    let counted = placed + field(out, placed, channels as u64, b' ');
-    counted + field(out, counted, awaited as u64, b'\n')
+    let mut pen = Pen { out, at: 0 };
+    pen.field(place, b' ');
+    pen.field(channels as u64, b' ');
+    pen.field(awaited as u64, b'\n');
+    pen.at
 }

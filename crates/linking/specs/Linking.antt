@@ -1,14 +1,13 @@
 -- Both ends in one process, "joined by two queues". "After each record every queued PDU is carried across, and what each end
 -- answers is printed." The shore's `receive` sends nothing, and what the panel sends for a PDU goes to the shore: so no queue
 -- is ever longer than one PDU, and what comes of a record is told call by call.
-use Rattle.std.specs.Prelude.{ℕ, zero, suc, ◌+◌, ◌-◌, ◌*◌, ◌≤◌, min, Bool, true, false, cond, ◌||◌, List, [], ◌++◌, ltb, eqb, length, take, drop, get_or}
+use Rattle.std.specs.Prelude.{ℕ, zero, suc, ◌+◌, ◌-◌, ◌*◌, ◌≤◌, min, Bool, true, false, cond, ◌||◌, List, [], ◌++◌, ltb, eqb, length, take, drop, get_or, Some, Result, Ok, Err}
 use Rattle.paper.specs.Sizes.{STORE, PDU_MAX, REPLY_MIN}
 use Rattle.lists.specs.Bytes.{laid, zeros}
 use Rattle.numbers.specs.Numbers.{value_of}
+use Rattle.paper.specs.declared.Refusal.{Refusal}
 use Rattle.cutting.specs.declared.Piece.{Piece}
-use Rattle.cutting.specs.declared.Piece.TheVariants.{Pdu, Refused as NotCut}
 use Rattle.cutting.specs.Cutting.{cut_at, cut_buffer}
-use Rattle.channel.specs.declared.Concern.TheVariants.{Channel}
 use Rattle.table.specs.declared.Table.{Table}
 use Rattle.table.specs.Table.{empty_table}
 use Rattle.client.specs.declared.Received.{Received}
@@ -67,13 +66,14 @@ unfoldable pub carry : List ℕ → (Both → List ℕ → Goes) → Both → Go
 carry sent across b = cond (eqb (length sent) 0) (stays b) (across b sent)
 
 -- "what each end answers": the end, and the line that the walker or the desk prints, then the line of a message handed up
+unfoldable pub call_text : End → List ℕ → List ℕ → List ℕ
+call_text end line handed = (end_field end ++ line) ++ handed
+
 unfoldable pub panel_text : ℕ → Received → List ℕ → List ℕ
-panel_text place r store =
-    (end_field end.Panel ++ line_of place r.answer r.sent) ++ message_text place r.place store r.answer
+panel_text place r store = call_text end.Panel (line_of place r.answer r.sent) (message_text place r.place store r.answer)
 
 unfoldable pub shore_text : ℕ → Given → List ℕ → List ℕ
-shore_text place g store =
-    (end_field end.Shore ++ desk_line_of place g.said g.sent) ++ message_said place g.place store g.said
+shore_text place g store = call_text end.Shore (desk_line_of place g.said g.sent) (message_said place g.place store g.said)
 
 -- the most bytes of one call's text
 unfoldable pub CALL_MAX : ℕ
@@ -140,12 +140,12 @@ pub record Sends : Type 0 where
 unfoldable pub unsent : End → ℕ → Said → List ℕ
 unsent from place said = end_field from ++ desk_line_of place said 0
 
-unfoldable pub sends_piece : End → List ℕ → ℕ → Both → ℕ → List ℕ → List ℕ → Piece → Sends
-sends_piece from list place b n message buffer (Pdu len next) =
-    record { goes = across from list place b (take len buffer); next = next }
-sends_piece from list place b n message buffer (NotCut why) =
+unfoldable pub sends_piece : End → List ℕ → ℕ → Both → ℕ → List ℕ → List ℕ → Result Piece Refusal → Sends
+sends_piece from list place b n message buffer (Ok piece) =
+    record { goes = across from list place b (take piece.len buffer); next = piece.next }
+sends_piece from list place b n message buffer (Err why) =
     record {
-      goes = record { both = b; text = unsent from place (Refused why (Channel n)) };
+      goes = record { both = b; text = unsent from place (Refused why (Some n)) };
       next = length message;
     }
 

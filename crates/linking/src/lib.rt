@@ -5,22 +5,23 @@
 // that is lent, and the shore's the rest. It takes anything; a record that is none is told as bad and does nothing.
 #![tactic(auto)]
 
-ghost use Rattle.std.specs.Prelude.{◌≡◌, true, List, ℕ, ◌+◌, ◌*◌, ◌≤◌, length};
+ghost use Rattle.std.specs.Prelude.{◌≡◌, true, false, List, ℕ, ◌+◌, ◌*◌, ◌≤◌, length};
 ghost use Rattle.lists.specs.Bytes.{laid};
 ghost use Rattle.records.specs.Desk.{leading, message_length};
+ghost use Rattle.lines.specs.Lines.{answer_line};
+ghost use Rattle.handing.specs.Handing.{handed_text};
 ghost use Rattle.linking.specs.declared.Ends.{Ends};
-ghost use Rattle.linking.specs.Linking.{with_store, panel_text, shore_text, CALL_MAX, to_shore, from_panel, to_panel, panel_closes};
+ghost use Rattle.linking.specs.Linking.{with_store, call_text, panel_text, shore_text, CALL_MAX, to_shore, from_panel, to_panel, panel_closes};
 ghost use Rattle.linking.specs.Linking.{shore_hosts, across, unsent, sends_one, sends_up, PIECES, message_in, count_in, host_sends};
 ghost use Rattle.linking.specs.Linking.{new_ends, both_started, dropped, is_host, no_record, link_step, STEP_MAX, Crosses};
 
-use channel::Concern;
 use client::Received;
-use cutting::Piece;
+use lines::Spoken;
 use paper::{PDU_MAX, REPLY_MIN, STORE};
 use records::{
     AT_SHORE, CLOSE, DROPS, FROM_PANEL, FROM_SHORE, LEAD, MESSAGE_HEAD, OPEN, PANEL_CLOSE, REQUEST,
 };
-use saying::End;
+use saying::{End, Told};
 use shore::{Given, Said, Shore};
 use table::Table;
 
@@ -38,7 +39,7 @@ pub struct Crossed {
     pub laid: usize,
 }
 
-// What comes of a record: whether it is none, too.
+// What comes of a record: whether it is none, too. That is no `Result`, since a record that is none has its text as well.
 #[derive(Clone, Copy)]
 pub struct Stepped {
     pub crossed: Crossed,
@@ -59,30 +60,54 @@ const PIECES: usize = 3;
 pub const STEP_MAX: usize = PIECES
     * (2 * (saying::END_MAX + lines::LINE_MAX + lines::MESSAGE_LINE_MAX));
 
-// The text of a call at the panel: its line, and that of a message handed up.
+// The text of a call at an end: its line, and that of a message handed up out of that end's store.
+fn call_text<T: Spoken>(
+    out: &mut [u8],
+    end: End,
+    place: u64,
+    answer: T,
+    sent: usize,
+    at: usize,
+    store: &[u8],
+) -> usize
+    ensures value { (result ≡ length (call_text end (answer_line place (T.word answer) (T.concern answer) (T.number answer) sent)
+        (handed_text place at store.now (T.message answer)))) × (result ≤ CALL_MAX) }
+    ensures out_after { out.new ≡ laid out.old 0 (call_text end (answer_line place (T.word answer) (T.concern answer) (T.number answer) sent)
+        (handed_text place at store.now (T.message answer))) }
+{
+    let worded = saying::end_word(out, end);
+    let from = worded.min(out.len());
+    let lined = worded + lines::answer_line(&mut out[from..], place, answer, sent);
+    let behind = lined.min(out.len());
+    lined + handing::handed(&mut out[behind..], place, at, store, answer)
+}
+
+// At the panel.
+#[tactic(auto, unfolding(crate::specs::Linking::panel_text, lines::specs::Lines::line_of, lines::specs::Lines::answer_fields, lines::specs::Lines::answer_line, handing::specs::Handing::message_text))]
 fn panel_text(out: &mut [u8], place: u64, received: Received, store: &[u8]) -> usize
     ensures value { (result ≡ length (panel_text place received store.now)) × (result ≤ CALL_MAX) }
     ensures out_after { out.new ≡ laid out.old 0 (panel_text place received store.now) }
 {
     let answer = received.answer;
-    let worded = saying::end_word(out, End::Panel);
-    let from = lists::lesser(worded, out.len());
-    let lined = worded + lines::line(&mut out[from..], place, answer, received.sent);
-    let behind = lists::lesser(lined, out.len());
-    lined + handing::of_answer(&mut out[behind..], place, received.place, store, answer)
+    call_text(
+        out,
+        End::Panel,
+        place,
+        answer,
+        received.sent,
+        received.place,
+        store,
+    )
 }
 
-// The text of a call at the shore.
+// At the shore.
+#[tactic(auto, unfolding(crate::specs::Linking::shore_text, saying::specs::Saying::desk_line_of, saying::specs::Saying::said_text, lines::specs::Lines::answer_line, handing::specs::Handing::message_said))]
 fn shore_text(out: &mut [u8], place: u64, given: Given, store: &[u8]) -> usize
     ensures value { (result ≡ length (shore_text place given store.now)) × (result ≤ CALL_MAX) }
     ensures out_after { out.new ≡ laid out.old 0 (shore_text place given store.now) }
 {
-    let said = given.said;
-    let worded = saying::end_word(out, End::Shore);
-    let from = lists::lesser(worded, out.len());
-    let lined = worded + saying::desk_line(&mut out[from..], place, said, given.sent);
-    let behind = lists::lesser(lined, out.len());
-    lined + handing::of_said(&mut out[behind..], place, given.place, store, said)
+    let said = Told(given.said);
+    call_text(out, End::Shore, place, said, given.sent, given.place, store)
 }
 
 // A PDU is carried to the shore, which sends nothing for it.
@@ -93,7 +118,7 @@ fn to_shore(ends: Ends, store: &mut [u8], pdu: &[u8], place: u64, out: &mut [u8]
     let mut reply = [0u8; REPLY_MIN];
     let panel = ends.panel;
     let shore = ends.shore;
-    let half = lists::lesser(STORE, store.len());
+    let half = STORE.min(store.len());
     let given = shore::receive(shore, &mut store[half..], pdu, &mut reply);
     let laid = shore_text(out, place, given, &store[half..]);
     let shore = given.shore;
@@ -115,15 +140,15 @@ fn from_panel(
     ensures { Crosses (from_panel place shore store.old received reply.now) (2 * CALL_MAX)
         out.old result store.new out.new }
 {
-    let half = lists::lesser(STORE, store.len());
+    let half = STORE.min(store.len());
     let told = panel_text(out, place, received, &store[..half]);
     let panel = received.table;
     let ends = Ends { panel, shore };
-    let n = lists::lesser(received.sent, reply.len());
+    let n = received.sent.min(reply.len());
     if n == 0 {
         return Crossed { ends, laid: told };
     }
-    let from = lists::lesser(told, out.len());
+    let from = told.min(out.len());
     let crossed = to_shore(ends, store, &reply[..n], place, &mut out[from..]);
     let ends = crossed.ends;
     Crossed {
@@ -147,7 +172,7 @@ fn to_panel(
     let mut reply = [0u8; REPLY_MIN];
     let panel = ends.panel;
     let shore = ends.shore;
-    let half = lists::lesser(STORE, store.len());
+    let half = STORE.min(store.len());
     let received = client::receive(panel, &mut store[..half], list, pdu, &mut reply);
     from_panel(shore, store, received, &reply, place, out)
 }
@@ -160,7 +185,7 @@ fn panel_closes(ends: Ends, store: &mut [u8], number: u32, place: u64, out: &mut
     let mut reply = [0u8; REPLY_MIN];
     let panel = ends.panel;
     let shore = ends.shore;
-    let half = lists::lesser(STORE, store.len());
+    let half = STORE.min(store.len());
     let received = client::local_close(panel, &mut store[..half], number, &mut reply);
     from_panel(shore, store, received, &reply, place, out)
 }
@@ -180,16 +205,16 @@ fn shore_hosts(
     let mut buffer = [0u8; PDU_MAX];
     let panel = ends.panel;
     let shore = ends.shore;
-    let half = lists::lesser(STORE, store.len());
+    let half = STORE.min(store.len());
     let given = hosting::hosted(shore, &mut store[half..], bytes, &mut buffer);
     let told = shore_text(out, place, given, &store[half..]);
     let shore = given.shore;
     let ends = Ends { panel, shore };
-    let n = lists::lesser(given.sent, PDU_MAX);
+    let n = given.sent.min(PDU_MAX);
     if n == 0 {
         return Crossed { ends, laid: told };
     }
-    let from = lists::lesser(told, out.len());
+    let from = told.min(out.len());
     let crossed = to_panel(ends, store, list, &buffer[..n], place, &mut out[from..]);
     let ends = crossed.ends;
     Crossed {
@@ -223,7 +248,7 @@ fn unsent(out: &mut [u8], from: End, place: u64, said: Said) -> usize
     ensures out_after { out.new ≡ laid out.old 0 (unsent from place said) }
 {
     let worded = saying::end_word(out, from);
-    let behind = lists::lesser(worded, out.len());
+    let behind = worded.min(out.len());
     worded + saying::desk_line(&mut out[behind..], place, said, 0)
 }
 
@@ -245,15 +270,18 @@ fn send_one(
 {
     let mut buffer = [0u8; PDU_MAX];
     match cutting::cut(number, message, at, &mut buffer) {
-        Piece::Pdu { len, next } => {
-            let n = lists::lesser(len, PDU_MAX);
+        Ok(piece) => {
+            let n = piece.len.min(PDU_MAX);
             let crossed = across(from, ends, store, list, &buffer[..n], place, out);
-            Sent { crossed, next }
+            Sent {
+                crossed,
+                next: piece.next,
+            }
         }
-        Piece::Refused(why) => {
+        Err(why) => {
             let said = Said::Refused {
                 why,
-                concern: Concern::Channel(number),
+                concern: Some(number),
             };
             let laid = unsent(out, from, place, said);
             Sent {
@@ -282,10 +310,9 @@ fn send(
 {
     let mut next = ends;
     let mut at = 0;
-    let mut used = 0;
-    let mut left = count;
-    while 0 < left {
-        let start = lists::lesser(used, out.len());
+    let mut used = 0usize;
+    for _ in 0..count {
+        let start = used.min(out.len());
         let sent = send_one(
             from,
             next,
@@ -301,7 +328,6 @@ fn send(
         next = crossed.ends;
         used += crossed.laid;
         at = sent.next;
-        left -= 1;
         if message.len() <= at {
             break;
         }
@@ -316,20 +342,17 @@ fn send(
 fn message_size(bytes: &[u8]) -> u32
     ensures { result ≡ message_length bytes.now }
 {
-    let start = lists::lesser(LEAD + 4, bytes.len());
-    let end = lists::lesser(MESSAGE_HEAD, bytes.len());
+    let start = (LEAD + 4).min(bytes.len());
+    let end = MESSAGE_HEAD.min(bytes.len());
     numbers::number(&bytes[start..end])
 }
 
 // How many PDUs of its message a record sends.
+#[tactic(auto, unfolding(crate::specs::Linking::count_in))]
 fn count_in(bytes: &[u8]) -> u8
     ensures { result ≡ count_in bytes.now }
 {
-    let n = bytes.len();
-    if n == 0 {
-        return 0;
-    }
-    bytes[n - 1]
+    bytes.last().copied().unwrap_or(0)
 }
 
 // A message of an end's host.
@@ -345,11 +368,11 @@ fn host_sends(
     ensures { Crosses (host_sends from list.now place (with_store ends store.old) bytes.now) STEP_MAX
         out.old result store.new out.new }
 {
-    let lead = lists::lesser(LEAD, bytes.len());
+    let lead = LEAD.min(bytes.len());
     let number = numbers::number(&bytes[lead..]);
-    let count = lists::lesser(count_in(bytes) as usize, PIECES);
-    let start = lists::lesser(MESSAGE_HEAD, bytes.len());
-    let end = start + lists::lesser(message_size(bytes) as usize, bytes.len() - start);
+    let count = (count_in(bytes) as usize).min(PIECES);
+    let start = MESSAGE_HEAD.min(bytes.len());
+    let end = start + (message_size(bytes) as usize).min(bytes.len() - start);
     send(
         count,
         from,
@@ -368,7 +391,7 @@ pub fn start(store: &mut [u8]) -> Ends
     ensures value { result ≡ new_ends }
     ensures store_after { store.new ≡ both_started store.old }
 {
-    let half = lists::lesser(STORE, store.len());
+    let half = STORE.min(store.len());
     let panel = client::start(&mut store[..half]);
     let shore = shore::start(&mut store[half..]);
     let panel = panel.table;
@@ -387,27 +410,30 @@ fn dropped(store: &mut [u8], place: u64, out: &mut [u8]) -> Crossed
 }
 
 // Whether what a record announces is what a host does.
+#[tactic(auto, unfolding(crate::specs::Linking::is_host))]
 fn is_host(bytes: &[u8]) -> bool
     ensures { result ≡ is_host bytes.now }
 {
     let announced = hosting::announces(bytes);
-    if announced == REQUEST {
-        return true;
-    }
-    if announced == OPEN {
-        return true;
-    }
-    announced == CLOSE
+    announced == REQUEST || announced == OPEN || announced == CLOSE
 }
 
 // The byte that leads a record.
+#[tactic(auto, unfolding(records::specs::Desk::leading))]
 fn lead_of(bytes: &[u8]) -> u8
     ensures { result ≡ leading bytes.now }
 {
-    if bytes.len() == 0 {
-        return 0;
+    bytes.first().copied().unwrap_or(0)
+}
+
+// A record that is one.
+fn good(crossed: Crossed) -> Stepped
+    ensures { result ≡ record { crossed = crossed; bad = false } }
+{
+    Stepped {
+        crossed,
+        bad: false,
     }
-    bytes[0]
 }
 
 // A record that is none.
@@ -435,46 +461,19 @@ pub fn step(
         × Crosses (link_step list.now place (with_store ends store.old) bytes.now).goes STEP_MAX
         out.old result.crossed store.new out.new }
 {
-    let lead = lead_of(bytes);
-    let from = lists::lesser(LEAD, bytes.len());
-    if lead == AT_SHORE {
-        if !is_host(&bytes[from..]) {
-            return no_record(ends, place, out);
+    let from = LEAD.min(bytes.len());
+    let rest = &bytes[from..];
+    match lead_of(bytes) {
+        AT_SHORE => {
+            if !is_host(rest) {
+                return no_record(ends, place, out);
+            }
+            good(shore_hosts(ends, store, list, rest, place, out))
         }
-        let crossed = shore_hosts(ends, store, list, &bytes[from..], place, out);
-        return Stepped {
-            crossed,
-            bad: false,
-        };
+        PANEL_CLOSE => good(panel_closes(ends, store, numbers::number(rest), place, out)),
+        FROM_SHORE => good(host_sends(End::Shore, ends, store, list, bytes, place, out)),
+        FROM_PANEL => good(host_sends(End::Panel, ends, store, list, bytes, place, out)),
+        DROPS => good(dropped(store, place, out)),
+        _ => no_record(ends, place, out),
     }
-    if lead == PANEL_CLOSE {
-        let number = numbers::number(&bytes[from..]);
-        let crossed = panel_closes(ends, store, number, place, out);
-        return Stepped {
-            crossed,
-            bad: false,
-        };
-    }
-    if lead == FROM_SHORE {
-        let crossed = host_sends(End::Shore, ends, store, list, bytes, place, out);
-        return Stepped {
-            crossed,
-            bad: false,
-        };
-    }
-    if lead == FROM_PANEL {
-        let crossed = host_sends(End::Panel, ends, store, list, bytes, place, out);
-        return Stepped {
-            crossed,
-            bad: false,
-        };
-    }
-    if lead == DROPS {
-        let crossed = dropped(store, place, out);
-        return Stepped {
-            crossed,
-            bad: false,
-        };
-    }
-    no_record(ends, place, out)
 }

@@ -25,6 +25,14 @@ pub blocks_none : (n at : ℕ) → n ≤ at → blocks_for (n - at) ≡ 0
 unfolding blocks_for
 blocks_none n at h = omega arith
 
+pub some_left : (n i : ℕ) → i < blocks_for n → PAYLOAD * i < n
+unfolding blocks_for
+some_left n i h = omega arith
+
+pub none_left : (n i : ℕ) → blocks_for n ≤ i → n ≤ PAYLOAD * i
+unfolding blocks_for
+none_left n i h = omega arith
+
 -- where laying stands, with so many bytes of the payload and of the room behind it
 pub record Left (room₀ : List ℕ) (number place : ℕ) (payload room : List ℕ) (at to next first : ℕ) : Type 0 where
   pub leads : laid room to (chained (blocks_for (length payload - at)) next first (drop at payload))

@@ -10,11 +10,11 @@ use Rattle.lists.specs.Bytes.{laid}
 use Rattle.lists.proofs.Laid.{front, from_to}
 use Rattle.paper.specs.declared.Refusal.TheVariants.{LogFull}
 use Rattle.blocks.specs.Block.{PAYLOAD}
-use Rattle.linklog.specs.declared.Appended.TheVariants.{Put, Refused}
 use Rattle.linklog.specs.Records.{RECORD_MAX}
 use Rattle.linklog.specs.Written.{blocks_for}
 use Rattle.linklog.specs.Reading.{BLOCKS_MAX}
 use Rattle.linklog.specs.Appending.{HELD_MAX, chained, filled_to, filled_with}
+use Rattle.std.specs.Prelude.{Ok, Err}
 
 -- no record touches more blocks than the room has
 pub few_blocks : (used n : ℕ) → used < PAYLOAD → n ≤ RECORD_MAX → blocks_for (used + n) ≤ HELD_MAX
@@ -42,14 +42,14 @@ module _ (room : List ℕ) (from used : ℕ) (head body : List ℕ) (there : fro
   module _ (number place count : ℕ) (e : count ≡ blocks_for (used + (length head + length body))) where
     -- too many
     pub log_full : BLOCKS_MAX < number + count
-        → (Refused LogFull ≡ filled_to number (in_hand room from used head body)) × (room ≡ filled_with number place (in_hand room from used head body) room)
+        → (Err LogFull ≡ filled_to number (in_hand room from used head body)) × (room ≡ filled_with number place (in_hand room from used head body) room)
     unfolding filled_to filled_with
     log_full h = rw (size_in_hand, ← e, lt-ltb BLOCKS_MAX (number + count) h) (refl, refl)
 
     -- they fit
     pub log_holds : (after : List ℕ) → number + count ≤ BLOCKS_MAX
         → after ≡ laid room 0 (chained (blocks_for (used + (length head + length body))) number place (in_hand room from used head body))
-        → (Put (record { blocks = number + count; held = count }) ≡ filled_to number (in_hand room from used head body))
+        → (Ok (record { blocks = number + count; held = count }) ≡ filled_to number (in_hand room from used head body))
         × (after ≡ filled_with number place (in_hand room from used head body) room)
     unfolding filled_to filled_with
     log_holds after h did = rw (size_in_hand, ← e, le-ltb BLOCKS_MAX (number + count) h) (refl, rw (← e) at did)

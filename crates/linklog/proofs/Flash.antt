@@ -16,7 +16,6 @@ use Rattle.lists.proofs.Laid.{length_laid, laid_eq, front}
 use Rattle.paper.specs.declared.Refusal.TheVariants.{LogFull}
 use Rattle.blocks.specs.Block.{BLOCK, PAYLOAD}
 use Rattle.linklog.specs.declared.Log.{Log}
-use Rattle.linklog.specs.declared.Appended.TheVariants.{Put, Refused}
 use Rattle.linklog.specs.Records.{RECORD_MAX}
 use Rattle.linklog.specs.Written.{marked_all, block_with, blocks_for, blocks_in, written}
 use Rattle.linklog.specs.Reading.{BLOCKS_MAX}
@@ -27,6 +26,7 @@ use Rattle.linklog.proofs.Blocks.{one_few, number_with, used_with}
 use Rattle.linklog.proofs.Lending.{right_number, lent_empty, held}
 use Rattle.linklog.proofs.Appends.{blocks_file, last_file, IsLast, first_in_law, touched_in_law, put_in, append_counts, touches_some, touches_few, first_near}
 use Rattle.linklog.proofs.Appends.{append_writes, length_put, last_put}
+use Rattle.std.specs.Prelude.{Ok, Err}
 
 -- ---- a writer that holds a written log
 
@@ -80,7 +80,7 @@ module _ (rs : List (List ℕ)) (r : List ℕ) (log : Log) (room : List ℕ) (ho
   counts = rw (first_is, touched_is) (sym (append_counts rs r))
 
   -- too many
-  pub log_full : blocks_in rs ≤ BLOCKS_MAX → BLOCKS_MAX < blocks_in (rs ++ (r ∷ [])) → (answer_for log room r ≡ Refused LogFull) × (room_then log room r ≡ room)
+  pub log_full : blocks_in rs ≤ BLOCKS_MAX → BLOCKS_MAX < blocks_in (rs ++ (r ∷ [])) → (answer_for log room r ≡ Err LogFull) × (room_then log room r ≡ room)
   unfolding answer_for room_then filled_to filled_with
   log_full few many = rw (lent few, counts, lt-ltb BLOCKS_MAX (blocks_in (rs ++ (r ∷ []))) many) (refl, refl)
 
@@ -89,7 +89,7 @@ module _ (rs : List (List ℕ)) (r : List ℕ) (log : Log) (room : List ℕ) (ho
     few_before : blocks_in rs ≤ BLOCKS_MAX
     few_before = omega (arith, append_counts rs r, (first_near rs r).1, touches_some rs r some)
 
-    log_put : answer_for log room r ≡ Put (log_then rs r)
+    log_put : answer_for log room r ≡ Ok (log_then rs r)
     unfolding answer_for filled_to
     log_put = rw (lent few_before, counts, le-ltb BLOCKS_MAX (blocks_in (rs ++ (r ∷ []))) few, touched_is) refl
 
@@ -141,7 +141,7 @@ module _ (rs : List (List ℕ)) (r : List ℕ) (log : Log) (room : List ℕ) (ho
           has_last = λ _. (touches_some rs r some, (touches_few rs r short, last_then));
         }
 
-    pub put_to_flash : (answer_for log room r ≡ Put (log_then rs r))
+    pub put_to_flash : (answer_for log room r ≡ Ok (log_then rs r))
         × ((flashed (written rs) (log_then rs r) (room_then log room r) ≡ written (rs ++ (r ∷ [])))
         × Holds (written (rs ++ (r ∷ []))) (log_then rs r) (room_then log room r))
     put_to_flash = (log_put, (flash_put, holds_put))

@@ -12,16 +12,12 @@ use Rattle.lists.proofs.Cases.{both}
 use Rattle.blocks.specs.Block.{BLOCK, HEAD, PAYLOAD, NONE, number_in, used_in, place_in, payload_in}
 use Rattle.paper.specs.declared.Refusal.TheVariants.{BadCall}
 use Rattle.linklog.specs.declared.Log.{Log}
-use Rattle.linklog.specs.declared.Appended.TheVariants.{Refused}
 use Rattle.linklog.specs.Appending.{ROOM, HELD_MAX, begun, first_touched, payload_so_far, place_then, last_in, may_be_last, is_lent}
 use Rattle.linklog.proofs.Parts.{drop_front}
 use Rattle.linklog.specs.Appending.{filled_to, filled_with, payload_then, answer_for, room_then}
+use Rattle.std.specs.Prelude.{Err}
 
 -- ---- a block that may be the last
-
-pub other_number : (blocks n : ℕ) (block : List ℕ) → n ≡ number_in block → (n + 1 ≡ blocks → ⊥) → false ≡ may_be_last blocks block
-unfolding may_be_last
-other_number blocks n block e h = rw (← e, ne_eqb (n + 1) blocks h) refl
 
 pub right_number : (blocks n u : ℕ) (block : List ℕ) → n ≡ number_in block → u ≡ used_in block → n + 1 ≡ blocks → leb u PAYLOAD ≡ may_be_last blocks block
 unfolding may_be_last
@@ -104,7 +100,7 @@ front_in u at room h =
 -- ---- what an append answers
 
 module _ (log : Log) (room bytes : List ℕ) where
-  pub not_lent : is_lent log room ≡ false → (Refused BadCall ≡ answer_for log room bytes) × (room ≡ room_then log room bytes)
+  pub not_lent : is_lent log room ≡ false → (Err BadCall ≡ answer_for log room bytes) × (room ≡ room_then log room bytes)
   unfolding answer_for room_then
   not_lent e = rw e (refl, refl)
 

@@ -5,7 +5,6 @@ pub mod Filling
 pub mod Recorded
 pub mod Blocks
 pub mod Framing
-pub mod Wholes
 pub mod Readers
 pub mod Walked
 pub mod Entering

@@ -18,7 +18,6 @@ use Rattle.blocks.specs.Block.{BLOCK, PAYLOAD, head_of, body_of, block_of, numbe
 use Rattle.blocks.proofs.Finds as finds
 use Rattle.linklog.specs.declared.Log.{Log}
 use Rattle.linklog.specs.declared.Reader.{Reader}
-use Rattle.linklog.specs.declared.Appended.TheVariants.{Refused}
 use Rattle.linklog.specs.Records.{Entry, Received, Closed, close_record, record_of, as_logged, needs_of, is_stray, logged_whole, entry_in}
 use Rattle.linklog.specs.Written.{marked, marked_all, first_place, block_with, blocks_from, blocks_for, written}
 use Rattle.linklog.specs.Reading.{BLOCKS_MAX, Course, Seeking, through, entered, taken, read_from, records_read, entries_read}
@@ -44,6 +43,7 @@ use Rattle.linklog.proofs.take_back.Reads as take_back
 use Rattle.linklog.proofs.close.Reads as close
 use Rattle.linklog.proofs.begin.Reads as begin
 use Rattle.linklog.proofs.turn.Reads as turn
+use Rattle.std.specs.Prelude.{Err}
 
 -- ---- what was written is read
 
@@ -105,7 +105,7 @@ put_to_flash = runs.puts
 
 -- "21, the record doesn't fit in 65,536 blocks, nothing written"
 pub log_full : (es : List Entry) (e : Entry) (log : Log) (room : List ℕ) → Holds (log_of es) log room → blocks_of es ≤ BLOCKS_MAX
-    → BLOCKS_MAX < blocks_of (es ++ (e ∷ [])) → (answer_for log room (record_of e) ≡ Refused LogFull) × (room_then log room (record_of e) ≡ room)
+    → BLOCKS_MAX < blocks_of (es ++ (e ∷ [])) → (answer_for log room (record_of e) ≡ Err LogFull) × (room_then log room (record_of e) ≡ room)
 log_full = runs.full
 
 -- The same on the functions' own contracts: the log is the first parameter, the room the second, and the PDU or the number the third.

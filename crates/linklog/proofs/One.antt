@@ -8,6 +8,7 @@ use Rattle.linklog.proofs.close.Reads as close
 use Rattle.linklog.proofs.begin.Reads as begin
 use Rattle.linklog.proofs.whole.Reads as whole
 use Rattle.linklog.proofs.turn.Reads as turn
+use Rattle.linklog.proofs.framed.Reads as framed
 use Rattle.linklog.proofs.take_up.Reads as take-up
 use Rattle.linklog.proofs.take_back.Reads as take_back
 
@@ -24,7 +25,10 @@ pub begin_one : (κs : _) (a : _) (r r' : _) (s s' : _) → begin.Post κs a r s
 begin_one κs a r r' s s' p q = same p q
 
 pub whole_one : (κs : _) (a : _) (r r' : _) (s s' : _) → whole.Post κs a r s → whole.Post κs a r' s' → r ≡ r'
-whole_one κs a r r' s s' p q = same p q
+whole_one κs a r r' s s' p q = same p.0 q.0
+
+pub framed_one : (κs : _) (a : _) (r r' : _) (s s' : _) → framed.Post κs a r s → framed.Post κs a r' s' → r ≡ r'
+framed_one κs a r r' s s' p q = same p.0 q.0
 
 -- the room is the fifth
 pub turn_one : (κs : _) (a : _) (r r' : _) (s s' : _) → turn.Post κs a r s → turn.Post κs a r' s'

@@ -26,13 +26,6 @@ laid_front l m bs few fits =
     ∙ ap (λ (x : List ℕ). bs ++ x) over
     ∙ sym (laid_eq l 0 bs (omega (arith, few, fits)))
 
--- what stands at the front already
-pub laid_same : (l : List ℕ) (n : ℕ) → n ≤ length l → laid l 0 (take n l) ≡ l
-laid_same l n h =
-    let long = length-take-le n l h in
-    let at : 0 + length (take n l) ≡ n = omega (arith, long) in
-    laid_eq l 0 (take n l) (omega (arith, long, h)) ∙ rw at (take-append-drop n l)
-
 -- bytes behind a place of a front, brought to the list's front
 pub brought_front : (l : List ℕ) (from n : ℕ) (part : List ℕ) → from + n ≤ length l
     → part ≡ laid (take (from + n) l) 0 (drop from (take (from + n) l)) → part ++ drop (from + n) l ≡ laid l 0 (take n (drop from l))

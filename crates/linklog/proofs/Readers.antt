@@ -4,7 +4,7 @@ use mathlib.Core.Bool.{Bool, true, false, ◌&&◌}
 use mathlib.Core.List.{List}
 use Prim.Native.Nat.{ℕ, suc, ◌-◌, ◌≤◌, ◌<◌}
 use native.Mathlib.Omega.{arith}
-use borrow.Author.Tests.{lt-leb, le-leb, leb-true, ltb-true, eq-eqb, ne_eqb, eqb-true, eqb-false}
+use borrow.Author.Tests.{le-leb, leb-true, ltb-true, eq-eqb, ne_eqb, eqb-true, eqb-false}
 use lib.Dec.{ltb, leb, eqb}
 use lib.ListN.{length}
 use Rattle.lists.proofs.Cases.{both}
@@ -12,28 +12,16 @@ use Rattle.lists.specs.Bytes.{laid}
 use Rattle.paper.specs.declared.Refusal.TheVariants.{BadCall}
 use Rattle.blocks.specs.Block.{is_good}
 use Rattle.linklog.specs.declared.Reader.{Reader}
-use Rattle.linklog.specs.declared.Turned.TheVariants.{Stands, Refused}
 use Rattle.linklog.specs.Records.{RECORD_MAX}
 use Rattle.linklog.specs.Reading.{nothing, entered, taken}
 use Rattle.linklog.specs.TakenBack.{end_after}
 use Rattle.linklog.specs.Appending.{ROOM}
 use Rattle.linklog.specs.Turns.{is_reader, is_last_of, course_in, brought_by, gave_to, reader_at, reader_with, turned_to, room_after}
+use Rattle.std.specs.Prelude.{Ok, Err}
 
 module _ (reader : Reader) (room : List ℕ) where
-  pub reader_short : length room < ROOM → false ≡ is_reader reader room
-  unfolding is_reader
-  reader_short h = rw (lt-leb ROOM (length room) h) refl
-
   module _ (fits : ROOM ≤ length room) where
-    pub reader_whole : ROOM < reader.whole → false ≡ is_reader reader room
-    unfolding is_reader
-    reader_whole h = rw (le-leb ROOM (length room) fits, lt-leb reader.whole ROOM h) refl
-
     module _ (whole : reader.whole ≤ ROOM) where
-      pub reader_behind : ROOM - reader.whole < reader.behind → false ≡ is_reader reader room
-      unfolding is_reader
-      reader_behind h = rw (le-leb ROOM (length room) fits, le-leb reader.whole ROOM whole, lt-leb reader.behind (ROOM - reader.whole) h) refl
-
       pub reader_rests : reader.behind ≤ ROOM - reader.whole → ltb reader.behind RECORD_MAX ≡ is_reader reader room
       unfolding is_reader
       reader_rests h = rw (le-leb ROOM (length room) fits, le-leb reader.whole ROOM whole, le-leb reader.behind (ROOM - reader.whole) h) refl
@@ -50,10 +38,6 @@ module _ (reader : Reader) (room : List ℕ) where
 
 -- ---- the last block
 
-pub none_last : (blocks number : ℕ) → blocks ≡ 0 → false ≡ is_last_of blocks number
-unfolding is_last_of
-none_last blocks number e = rw e (sym (ne_eqb (suc number) 0 (λ z. omega (arith, z))))
-
 pub last_is : (blocks number : ℕ) → (blocks ≡ 0 → ⊥) → eqb number (blocks - 1) ≡ is_last_of blocks number
 unfolding is_last_of
 last_is blocks number some = go (eqb number (blocks - 1)) refl
@@ -66,18 +50,18 @@ last_is blocks number some = go (eqb number (blocks - 1)) refl
 
 module _ (reader : Reader) (blocks number : ℕ) (block room : List ℕ) where
   pub no_reader : is_reader reader room ≡ false
-      → (Refused BadCall ≡ turned_to reader blocks number block room) × (room ≡ room_after reader blocks number block room)
+      → (Err BadCall ≡ turned_to reader blocks number block room) × (room ≡ room_after reader blocks number block room)
   unfolding turned_to room_after
   no_reader e = rw e (refl, refl)
 
   module _ (is : is_reader reader room ≡ true) where
     pub bad_turn : is_good (is_last_of blocks number) number block ≡ false
-        → (Stands (reader_at reader.end nothing) ≡ turned_to reader blocks number block room) × (room ≡ room_after reader blocks number block room)
+        → (Ok (reader_at reader.end nothing) ≡ turned_to reader blocks number block room) × (room ≡ room_after reader blocks number block room)
     unfolding turned_to room_after gave_to taken end_after
     bad_turn bad = rw (is, bad) (refl, refl)
 
     pub good_turn : is_good (is_last_of blocks number) number block ≡ true
-        → (Stands (reader_with reader number block (entered (course_in reader room) block)) ≡ turned_to reader blocks number block room)
+        → (Ok (reader_with reader number block (entered (course_in reader room) block)) ≡ turned_to reader blocks number block room)
         × (laid room 0 (brought_by (course_in reader room) block) ≡ room_after reader blocks number block room)
     unfolding turned_to room_after gave_to taken
     good_turn good = rw (is, good) (refl, refl)

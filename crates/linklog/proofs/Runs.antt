@@ -13,8 +13,6 @@ use Rattle.lists.proofs.Cases.{lt_or_le, choice}
 use Rattle.lists.proofs.Laid.{length_laid}
 use Rattle.paper.specs.declared.Refusal.TheVariants.{LogFull}
 use Rattle.linklog.specs.declared.Log.{Log}
-use Rattle.linklog.specs.declared.Appended.{Appended}
-use Rattle.linklog.specs.declared.Appended.TheVariants.{Refused}
 use Rattle.linklog.specs.Records.{Entry, record_of, as_logged}
 use Rattle.linklog.specs.Written.{marked_all, blocks_from, blocks_for, blocks_in, written}
 use Rattle.linklog.specs.Reading.{BLOCKS_MAX, entries_read}
@@ -28,6 +26,8 @@ use Rattle.linklog.proofs.Blocks.{marked_both}
 use Rattle.linklog.proofs.Front.{read_what_was_written}
 use Rattle.linklog.proofs.TakenBack.{whole_back, lost_before, lost_after}
 use Rattle.linklog.proofs.Flash.{log_full, put_to_flash, part_to_flash, holds_empty, taken_up_law, laid_up}
+use Rattle.std.specs.Prelude.{Result, Err}
+use Rattle.paper.specs.declared.Refusal.{Refusal}
 
 -- a choice between two that are the same
 cond_same : {A : Type 0} (t : Bool) (a : A) → cond t a a ≡ a
@@ -56,7 +56,7 @@ module _ (es : List Entry) (e : Entry) (log : Log) (room : List ℕ) (holds : Ho
       (put_to_flash (map record_of es) (record_of e) log room holds (entry_record e).some (entry_short e) (rw (records_more es e) at few))
 
   pub full : blocks_of es ≤ BLOCKS_MAX → BLOCKS_MAX < blocks_of (es ++ (e ∷ []))
-      → (answer_for log room (record_of e) ≡ Refused LogFull) × (room_then log room (record_of e) ≡ room)
+      → (answer_for log room (record_of e) ≡ Err LogFull) × (room_then log room (record_of e) ≡ room)
   full few many = log_full (map record_of es) (record_of e) log room holds few (rw (records_more es e) at many)
 
 -- ---- a run
@@ -90,7 +90,7 @@ module _ (es : List Entry) (host : Host) (stands : Stands es host) where
   abbrev rs : List (List ℕ)
   rs = map record_of es
 
-  abbrev answer : Entry → Appended
+  abbrev answer : Entry → Result Log Refusal
   answer e = answer_for host.log host.room (record_of e)
 
   abbrev room_then_law : Entry → List ℕ
@@ -105,7 +105,7 @@ module _ (es : List Entry) (host : Host) (stands : Stands es host) where
   module _ (e : Entry) where
     -- the log is full
     module _ (many : BLOCKS_MAX < blocks_of (es ++ (e ∷ []))) where
-      is_full_law : (answer e ≡ Refused LogFull) × (room_then_law e ≡ host.room)
+      is_full_law : (answer e ≡ Err LogFull) × (room_then_law e ≡ host.room)
       is_full_law = full es e host.log host.room stands.holds stands.few many
 
       full_logs : Stands (with_one es e) (came host (Logs e))

@@ -17,10 +17,10 @@ use Rattle.blocks.specs.Sealed.{joined_to, sealed}
 use Rattle.blocks.proofs.Blocks.{length_block}
 use Rattle.blocks.proofs.Sealing.{is_sealed}
 use Rattle.linklog.specs.declared.End.{End}
-use Rattle.linklog.specs.declared.Appended.TheVariants.{Refused}
 use Rattle.linklog.specs.Appending.{ROOM, may_be_last}
 use Rattle.linklog.specs.TakenBack.{shortened}
 use Rattle.linklog.specs.Taking.{empty_log, last_held, taken_up, may_shorten, took_back, room_back}
+use Rattle.std.specs.Prelude.{Err}
 
 -- ---- after a stop
 
@@ -29,7 +29,7 @@ module _ (blocks : ℕ) (block : List ℕ) where
   unfolding taken_up
   up_empty e = rw (eq-eqb blocks 0 e) refl
 
-  pub up_bad : (blocks ≡ 0 → ⊥) → is_good true (blocks - 1) block ≡ false → Refused BadCall ≡ taken_up blocks block
+  pub up_bad : (blocks ≡ 0 → ⊥) → is_good true (blocks - 1) block ≡ false → Err BadCall ≡ taken_up blocks block
   unfolding taken_up
   up_bad some bad = rw (ne_eqb blocks 0 some, bad) refl
 
@@ -69,7 +69,7 @@ module _ (end : End) (room : List ℕ) where
   back_empty e = rw (eq-eqb end.blocks 0 e) (refl, refl)
 
   module _ (some : end.blocks ≡ 0 → ⊥) where
-    pub back_not : may_shorten end room ≡ false → (Refused BadCall ≡ took_back end room) × (room ≡ room_back end room)
+    pub back_not : may_shorten end room ≡ false → (Err BadCall ≡ took_back end room) × (room ≡ room_back end room)
     unfolding took_back room_back
     back_not not_so = rw (ne_eqb end.blocks 0 some, not_so) (refl, refl)
 

@@ -24,7 +24,6 @@ use Rattle.blocks.specs.Block.{BLOCK, PAYLOAD, NONE, used_in, place_in, payload_
 use Rattle.blocks.proofs.Judged.{good_says, uses_le}
 use Rattle.linklog.specs.declared.End.{End}
 use Rattle.linklog.specs.declared.Reader.{Reader}
-use Rattle.linklog.specs.declared.Turned.TheVariants.{Stands}
 use Rattle.linklog.specs.Records.{RECORD_MAX, is_stray, logged_whole}
 use Rattle.linklog.specs.Reading.{Course, Seeking, Within, Gave, nothing, through, entered, taken, read_from, records_read}
 use Rattle.linklog.specs.TakenBack.{end_after, end_from, end_in}
@@ -38,6 +37,7 @@ use Rattle.linklog.proofs.Damage.{last_one}
 use Rattle.linklog.proofs.Fits.{fit_all, fit_told}
 use Rattle.linklog.proofs.Longer.{for_short}
 use Rattle.linklog.proofs.Readers.{reader_rests, reader_says}
+use Rattle.std.specs.Prelude.{Ok}
 
 -- ---- a record by the length that it announces
 
@@ -334,7 +334,7 @@ module _ (reader : Reader) (blocks number : ℕ) (block room : List ℕ) where
     turn_given = rw turn_leaves.there turn_leaves.told
 
     -- it is not refused
-    turn_stands : turned_to reader blocks number block room ≡ Stands next
+    turn_stands : turned_to reader blocks number block room ≡ Ok next
     unfolding turned_to
     turn_stands = rw is refl
 

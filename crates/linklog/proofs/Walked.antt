@@ -9,8 +9,11 @@ use borrow.Author.Tests.{eq-eqb, ne_eqb}
 use lib.ListN.{length, drop, length-drop}
 use lib.Seq.{drop-drop}
 use Rattle.lists.proofs.Cases.{lt_or_le}
+use Rattle.std.specs.Prelude.{Some, None}
+use Rattle.records.specs.Records.{found}
 use Rattle.records.specs.Walks.{records_of, size_of, rest_of}
 use Rattle.records.proofs.Framings.{records_none, records_first}
+use Rattle.records.proofs.Found.{none_found, some_found}
 use Rattle.records.proofs.Rests.{size_none, size_first}
 use Rattle.linklog.specs.declared.End.{End}
 use Rattle.linklog.specs.Records.{is_stray, logged_whole}
@@ -19,29 +22,27 @@ use Rattle.linklog.specs.TakenBack.{end_with}
 use Rattle.linklog.specs.Turns.{is_within, reader_at}
 use Rattle.linklog.proofs.Framing.{log_framing}
 
--- where the walk stands: so many bytes are gone through, and the next record has so many
-pub record Gone (input : List ℕ) (at n : ℕ) : Type 0 where
+-- where the walk stands: so many bytes are gone through
+pub record Gone (input : List ℕ) (at : ℕ) : Type 0 where
   pub within : at ≤ length input
-  pub next : n ≡ logged_whole (drop at input)
   pub leads : size_of (records_of logged_whole input) ≡ at + size_of (records_of logged_whole (drop at input))
 
 module _ (input : List ℕ) where
-  pub gone_first : (n : ℕ) → n ≡ logged_whole input → Gone input 0 n
-  gone_first n e = record { within = omega arith; next = e; leads = omega arith }
-
-  module _ (at n : ℕ) (gone : Gone input at n) where
-    pub next_there : at + n ≤ length input
-    next_there = omega (arith, gone.within, gone.next, log_framing.fits (drop at input), length-drop at input)
-
-    pub gone_on_law : (m : ℕ) → 0 < n → m ≡ logged_whole (drop (at + n) input) → Gone input (at + n) m
-    gone_on_law m some e =
-        let one : 0 < logged_whole (drop at input) = omega (arith, some, gone.next) in
+  module _ (at : ℕ) (gone : Gone input at) where
+    -- behind the next record
+    pub gone_on_law : (n : ℕ) → found (logged_whole (drop at input)) ≡ Some n → Gone input (at + n)
+    gone_on_law n e =
+        let next = some_found (logged_whole (drop at input)) n e in
+        let one : 0 < logged_whole (drop at input) = omega (arith, next) in
         let behind = drop-drop n at input in
-        let first = rw (← gone.next, behind) at (size_first log_framing (drop at input) one) in
-        record { within = next_there; next = e; leads = omega (arith, gone.leads, first) }
+        let first = rw (← next.0, behind) at (size_first log_framing (drop at input) one) in
+        record {
+          within = omega (arith, gone.within, next.0, log_framing.fits (drop at input), length-drop at input);
+          leads = omega (arith, gone.leads, first);
+        }
 
-    pub gone_end : n ≤ 0 → at ≡ size_of (records_of logged_whole input)
-    gone_end none = omega (arith, gone.leads, size_none logged_whole (drop at input) (omega (arith, gone.next, none)))
+    pub gone_end : found (logged_whole (drop at input)) ≡ None → at ≡ size_of (records_of logged_whole input)
+    gone_end e = omega (arith, gone.leads, size_none logged_whole (drop at input) (none_found (logged_whole (drop at input)) e))
 
 -- ---- what bytes from a record's beginning on give
 

@@ -1,13 +1,13 @@
 -- What an append writes: of the log it sees how many blocks there are, and the last one.
-use Rattle.std.specs.Prelude.{ℕ, zero, suc, ◌+◌, ◌-◌, ◌*◌, ◌/◌, Bool, cond, ◌&&◌, ◌||◌, List, [], ◌∷◌, ◌++◌, ltb, leb, eqb, length, take, drop}
+use Rattle.std.specs.Prelude.{ℕ, zero, suc, ◌+◌, ◌-◌, ◌*◌, ◌/◌, Bool, cond, ◌&&◌, ◌||◌, ltb, leb, eqb}
+use Rattle.std.specs.Prelude.{List, [], ◌∷◌, ◌++◌, length, take, drop, Result, Ok, Err}
 use Rattle.lists.specs.Bytes.{laid}
 use Rattle.paper.specs.declared.Refusal.TheVariants.{BadCall, LogFull}
 use Rattle.blocks.specs.Block.{BLOCK, PAYLOAD, NONE, block_of, number_in, used_in, place_in, payload_in}
 use Rattle.linklog.specs.Written.{blocks_for}
 use Rattle.linklog.specs.Reading.{BLOCKS_MAX}
 use Rattle.linklog.specs.declared.Log.{Log}
-use Rattle.linklog.specs.declared.Appended.{Appended}
-use Rattle.linklog.specs.declared.Appended.TheVariants.{Put, Refused}
+use Rattle.paper.specs.declared.Refusal.{Refusal}
 
 -- so many blocks of a payload, the first with a place, in the others no record begins
 unfoldable pub chained : ℕ → ℕ → ℕ → List ℕ → List ℕ
@@ -70,10 +70,10 @@ is_lent log room =
 -- ---- what an append answers, and what it leaves in the room
 
 -- "21, the record doesn't fit in 65,536 blocks, nothing written": a payload, in blocks from a number on
-unfoldable pub filled_to : ℕ → List ℕ → Appended
+unfoldable pub filled_to : ℕ → List ℕ → Result Log Refusal
 filled_to number payload =
-    cond (ltb BLOCKS_MAX (number + blocks_for (length payload))) (Refused LogFull)
-    (Put (record { blocks = number + blocks_for (length payload); held = blocks_for (length payload) }))
+    cond (ltb BLOCKS_MAX (number + blocks_for (length payload))) (Err LogFull)
+    (Ok (record { blocks = number + blocks_for (length payload); held = blocks_for (length payload) }))
 
 unfoldable pub filled_with : ℕ → ℕ → List ℕ → List ℕ → List ℕ
 filled_with number place payload room =
@@ -84,9 +84,9 @@ filled_with number place payload room =
 unfoldable pub payload_then : Log → List ℕ → List ℕ → List ℕ
 payload_then log room bytes = payload_so_far log.blocks (last_in log room) ++ bytes
 
-unfoldable pub answer_for : Log → List ℕ → List ℕ → Appended
+unfoldable pub answer_for : Log → List ℕ → List ℕ → Result Log Refusal
 answer_for log room bytes =
-    cond (is_lent log room) (filled_to (first_touched log.blocks (last_in log room)) (payload_then log room bytes)) (Refused BadCall)
+    cond (is_lent log room) (filled_to (first_touched log.blocks (last_in log room)) (payload_then log room bytes)) (Err BadCall)
 
 unfoldable pub room_then : Log → List ℕ → List ℕ → List ℕ
 room_then log room bytes =

@@ -1,17 +1,17 @@
 -- The words of the log's page.
-use Rattle.std.specs.Prelude.{ℕ, zero, suc, ◌+◌, ◌-◌, ◌*◌, ◌/◌, ◌≤◌, ◌<◌, ◌≡◌, Bool, true, false, cond, ◌&&◌, List, [], ◌∷◌, ◌++◌, map, leb, eqb, length, take, drop}
+use Rattle.std.specs.Prelude.{ℕ, zero, suc, ◌+◌, ◌-◌, ◌*◌, ◌/◌, ◌≤◌, ◌<◌, ◌≡◌, Bool, true, false, cond, ◌&&◌, leb, eqb}
+use Rattle.std.specs.Prelude.{List, [], ◌∷◌, ◌++◌, map, length, take, drop, Result, Ok, Err}
 use Rattle.lists.specs.Bytes.{laid}
 use Rattle.numbers.specs.Numbers.{Bytes, NUMBERS}
 use Rattle.blocks.specs.Block.{BLOCK, PAYLOAD, is_good}
 use Rattle.paper.specs.declared.Refusal.TheVariants.{LogFull}
 use Rattle.linklog.specs.declared.Log.{Log}
-use Rattle.linklog.specs.declared.Appended.{Appended}
-use Rattle.linklog.specs.declared.Appended.TheVariants.{Put, Refused}
 use Rattle.linklog.specs.Records.{Entry, Received, Closed, RECORD_MAX, record_of, as_logged}
 use Rattle.linklog.specs.Written.{blocks_in, written}
 use Rattle.linklog.specs.Reading.{BLOCKS_MAX}
 use Rattle.linklog.specs.Appending.{ROOM, HELD_MAX, last_in, answer_for, room_then, last_block, touched_in}
 use Rattle.linklog.specs.TakenBack.{taken_back}
+use Rattle.paper.specs.declared.Refusal.{Refusal}
 
 -- an entry as a host has one: bytes of a PDU, a number of four bytes
 abbrev pub IsEntry : Entry → Type 0
@@ -97,18 +97,18 @@ abbrev pub log_then : List (List ℕ) → List ℕ → Log
 log_then rs r = record { blocks = blocks_in (rs ++ (r ∷ [])); held = touched_in (written rs) r }
 
 -- an entry is put: the answer's blocks, in their places, make the log with one more, and the writer can go on
-abbrev pub Puts : List Entry → Entry → Appended → List ℕ → Type 0
+abbrev pub Puts : List Entry → Entry → Result Log Refusal → List ℕ → Type 0
 Puts es e answer room =
-    (answer ≡ Put (log_then (map record_of es) (record_of e)))
+    (answer ≡ Ok (log_then (map record_of es) (record_of e)))
     × ((flashed (log_of es) (log_then (map record_of es) (record_of e)) room ≡ log_of (es ++ (e ∷ [])))
     × Holds (log_of (es ++ (e ∷ []))) (log_then (map record_of es) (record_of e)) room)
 
 -- what a call that logs an entry does, from a room to a room: it puts it, or where that makes more blocks than there may be, it refuses and
 -- leaves the room as it was
-abbrev pub Called : List Entry → Entry → List ℕ → Appended → List ℕ → Type 0
+abbrev pub Called : List Entry → Entry → List ℕ → Result Log Refusal → List ℕ → Type 0
 Called es e room answer then =
     (blocks_of (es ++ (e ∷ [])) ≤ BLOCKS_MAX → Puts es e answer then)
-    × (BLOCKS_MAX < blocks_of (es ++ (e ∷ [])) → (answer ≡ Refused LogFull) × (then ≡ room))
+    × (BLOCKS_MAX < blocks_of (es ++ (e ∷ [])) → (answer ≡ Err LogFull) × (then ≡ room))
 
 -- ---- a run: a host appends, stops and starts anew, and loses power
 
@@ -138,14 +138,14 @@ started file room =
     }
 
 -- an append's answer is put to flash
-unfoldable pub answered : Host → List ℕ → Appended → Host
-answered host room (Put log) = record { file = flashed host.file log room; log = log; room = room }
-answered host room (Refused why) = record { file = host.file; log = host.log; room = room }
+unfoldable pub answered : Host → List ℕ → Result Log Refusal → Host
+answered host room (Ok log) = record { file = flashed host.file log room; log = log; room = room }
+answered host room (Err why) = record { file = host.file; log = host.log; room = room }
 
 -- or only so many blocks of it
-unfoldable pub part_answered : ℕ → List ℕ → List ℕ → Appended → List ℕ
-part_answered n file room (Put log) = part_flashed n file log room
-part_answered n file room (Refused why) = file
+unfoldable pub part_answered : ℕ → List ℕ → List ℕ → Result Log Refusal → List ℕ
+part_answered n file room (Ok log) = part_flashed n file log room
+part_answered n file room (Err why) = file
 
 -- an entry is logged by a call of `append` or `close`, which answers so and leaves such a room
 unfoldable pub came : Host → Coming → Host

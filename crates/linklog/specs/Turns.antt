@@ -1,5 +1,6 @@
 -- Reading block by block, as the reader's room has it: the whole records at its front, and behind them what isn't whole.
-use Rattle.std.specs.Prelude.{ℕ, zero, suc, ◌-◌, ◌/◌, ◌≡◌, Bool, true, false, cond, ◌&&◌, List, [], ◌∷◌, ◌++◌, ltb, leb, eqb, length, take, drop}
+use Rattle.std.specs.Prelude.{ℕ, zero, suc, ◌-◌, ◌/◌, ◌≡◌, Bool, true, false, cond, ◌&&◌, ltb, leb, eqb}
+use Rattle.std.specs.Prelude.{List, [], ◌∷◌, ◌++◌, length, take, drop, Result, Ok, Err}
 use Rattle.lists.specs.Bytes.{laid}
 use Rattle.paper.specs.declared.Refusal.TheVariants.{BadCall}
 use Rattle.records.specs.Walks.{records_of, size_of}
@@ -7,12 +8,11 @@ use Rattle.records.specs.Items.{all_of}
 use Rattle.blocks.specs.Block.{BLOCK, NONE, place_in, payload_in, is_good}
 use Rattle.linklog.specs.declared.End.{End}
 use Rattle.linklog.specs.declared.Reader.{Reader}
-use Rattle.linklog.specs.declared.Turned.{Turned}
-use Rattle.linklog.specs.declared.Turned.TheVariants.{Stands, Refused}
 use Rattle.linklog.specs.Records.{RECORD_MAX, is_stray, logged_whole}
 use Rattle.linklog.specs.Reading.{Course, Seeking, Within, Gave, taken}
 use Rattle.linklog.specs.TakenBack.{no_end, end_after}
 use Rattle.linklog.specs.Appending.{ROOM}
+use Rattle.paper.specs.declared.Refusal.{Refusal}
 
 -- before the first block
 abbrev pub at_first : Reader
@@ -54,9 +54,9 @@ reader_at end gave = record { within = is_within gave.course; whole = size_of ga
 abbrev pub reader_with : Reader → ℕ → List ℕ → Gave → Reader
 reader_with reader number block gave = reader_at (end_after reader.end number block gave) gave
 
-unfoldable pub turned_to : Reader → ℕ → ℕ → List ℕ → List ℕ → Turned
+unfoldable pub turned_to : Reader → ℕ → ℕ → List ℕ → List ℕ → Result Reader Refusal
 turned_to reader blocks number block room =
-    cond (is_reader reader room) (Stands (reader_with reader number block (gave_to reader blocks number block room))) (Refused BadCall)
+    cond (is_reader reader room) (Ok (reader_with reader number block (gave_to reader blocks number block room))) (Err BadCall)
 
 unfoldable pub room_after : Reader → ℕ → ℕ → List ℕ → List ℕ → List ℕ
 room_after reader blocks number block room =
@@ -81,9 +81,9 @@ whole_in reader room = take reader.whole room
 
 -- what a turn does with what its block gives: at the front of the room stand the bytes of these records alone, and the reader stands behind
 -- the block
-abbrev pub Gives : Reader → ℕ → List ℕ → Gave → Turned → List ℕ → Type 0
+abbrev pub Gives : Reader → ℕ → List ℕ → Gave → Result Reader Refusal → List ℕ → Type 0
 Gives reader number block gave answer room =
-    (answer ≡ Stands (reader_with reader number block gave))
+    (answer ≡ Ok (reader_with reader number block gave))
     × ((records_of logged_whole (whole_in (reader_with reader number block gave) room) ≡ gave.given)
     × ((whole_in (reader_with reader number block gave) room ≡ all_of gave.given)
     × StandsAt (reader_with reader number block gave) room gave.course))
@@ -95,9 +95,9 @@ pub record Turns : Type 0 where
   pub room : List ℕ
 
 -- a turn goes on with its reader, or where it is refused it is the last
-unfoldable pub gone_on : Turned → (Reader → Turns) → Turns → Turns
-gone_on (Stands reader) onward here = onward reader
-gone_on (Refused why) onward here = here
+unfoldable pub gone_on : Result Reader Refusal → (Reader → Turns) → Turns → Turns
+gone_on (Ok reader) onward here = onward reader
+gone_on (Err why) onward here = here
 
 -- so many blocks of a file, from a number on
 unfoldable pub turned_from : ℕ → ℕ → ℕ → Reader → List ℕ → List ℕ → Turns

@@ -9,11 +9,13 @@
 // the records that the block made whole, which `whole` takes apart. Any bytes are read: a bad block takes with it the records that touch it.
 #![tactic(auto)]
 
-ghost use Rattle.std.specs.Prelude.{◌≡◌, true, ◌++◌, ◌+◌, ◌-◌, ◌*◌, ◌≤◌, ◌<◌, length, take, drop};
+ghost use Rattle.std.specs.Prelude.{◌≡◌, true, ◌++◌, ◌+◌, ◌-◌, ◌*◌, ◌≤◌, ◌<◌, length, take, drop, IfSome};
 ghost use Rattle.lists.specs.Bytes.{laid};
 ghost use Rattle.blocks.specs.Block.{BLOCK, HEAD, PAYLOAD, block_of, used_in, place_in, may_begin};
+ghost use Rattle.records.specs.Records.{found};
+ghost use Rattle.records.specs.Desk.{whole_by};
 ghost use Rattle.records.specs.Walks.{records_of, size_of};
-ghost use Rattle.linklog.specs.Records.{Received, Closed, RECORD_MAX, record_of, is_stray, logged_whole};
+ghost use Rattle.linklog.specs.Records.{Received, Closed, RECORD_MAX, record_of, is_stray, needs_of, logged_whole};
 ghost use Rattle.linklog.specs.Written.{blocks_for};
 ghost use Rattle.linklog.specs.Reading.{BLOCKS_MAX};
 ghost use Rattle.linklog.specs.Appending.{ROOM, chained, first_touched, payload_so_far, place_then, may_be_last, is_lent, filled_to, filled_with};
@@ -50,15 +52,8 @@ pub struct Log {
     pub held: u32,
 }
 
-// What an append answers.
-#[derive(Clone, Copy)]
-pub enum Appended {
-    // The log now. The blocks that the room holds are to be put to flash, in rising order.
-    Put(Log),
-    Refused(Refusal),
-}
-
-// Where the last whole record ends: in the last of so many blocks, behind so many bytes of its payload. With no block there is none.
+// Where the last whole record ends: in the last of so many blocks, behind so many bytes of its payload. With no block there is none: no
+// Option, since C keeps both numbers in a reader's (`log_face::read_word`).
 #[derive(Clone, Copy)]
 pub struct End {
     pub blocks: u32,
@@ -66,7 +61,8 @@ pub struct End {
 }
 
 // A reader between two blocks. At the room's front stand so many bytes of whole records, and behind them so many of one that isn't whole,
-// which counts only within a record: else reading looks for a block in which one begins.
+// which counts only within a record: else reading looks for a block in which one begins. What is behind stands beside `within`, and in no
+// Option, since C keeps both in a reader's number (`log_face::read_word`).
 #[derive(Clone, Copy)]
 pub struct Reader {
     pub within: bool,
@@ -75,37 +71,40 @@ pub struct Reader {
     pub end: End,
 }
 
-// What a turn answers.
-#[derive(Clone, Copy)]
-pub enum Turned {
-    Stands(Reader),
-    Refused(Refusal),
-}
-
 // The first block that an append touches: its number, how many bytes of its payload are used, and where its first record begins then.
 #[derive(Clone, Copy)]
 struct First {
     number: u32,
     used: usize,
     place: u32,
+    ghost fits: { (number ≤ BLOCKS_MAX) × ((used < PAYLOAD) × (place < 65536)) },
+}
+
+// A good block, and its number.
+#[derive(Clone, Copy)]
+struct Good<'a> {
+    number: u32,
+    block: &'a [u8],
+    ghost numbered: { number < 65536 },
+    ghost long: { length block.now ≡ BLOCK },
+    ghost fits: { used_in block.now ≤ PAYLOAD },
+    ghost begins: { may_begin (used_in block.now) (place_in block.now) ≡ true },
 }
 
 // How many blocks so many bytes fill.
+#[tactic(auto, unfolding(crate::specs::Written::blocks_for))]
 fn blocks_for(bytes: usize) -> usize
-    requires { bytes ≤ 65536 }
     ensures { result ≡ blocks_for bytes }
 {
-    (bytes + (PAYLOAD - 1)) / PAYLOAD
+    bytes.div_ceil(PAYLOAD)
 }
 
 // Whether a block may be the last of so many.
+#[tactic(auto, using(std::proofs::lemmas::Bool::Decides::nat_tests), unfolding(crate::specs::Appending::may_be_last))]
 fn may_be_last(blocks: u32, block: &[u8]) -> bool
     ensures { (result ≡ may_be_last blocks block.now) × (result ≡ true → blocks ≤ BLOCKS_MAX) }
 {
-    if blocks::number(block) as u32 + 1 != blocks {
-        return false;
-    }
-    blocks::used(block) as usize <= PAYLOAD
+    u32::from(blocks::number(block)) + 1 == blocks && usize::from(blocks::used(block)) <= PAYLOAD
 }
 
 // Whether the room is of its size, and has the last block of a log that isn't empty.
@@ -131,31 +130,23 @@ fn is_lent(log: Log, room: &[u8]) -> bool
 // The first block that an append touches, where there is a last block: that one, or a new one where it is full.
 fn first_touched(blocks: u32, last: &[u8]) -> First
     requires { (blocks ≡ 0 → ⊥) × ((blocks ≤ BLOCKS_MAX) × (used_in last.now ≤ PAYLOAD)) }
-    ensures number_value { (result.number ≡ first_touched blocks last.now)
+    ensures { (result.number ≡ first_touched blocks last.now)
         × ((take result.used (drop HEAD last.now) ≡ payload_so_far blocks last.now)
         × (result.place ≡ place_then blocks last.now)) }
-    ensures number_bound { (result.number ≤ BLOCKS_MAX) × ((result.used < PAYLOAD) × (result.place < 65536)) }
 {
-    let used = blocks::used(last);
-    if used as usize == PAYLOAD {
+    let used = usize::from(blocks::used(last));
+    if used == PAYLOAD {
         return First {
             number: blocks,
             used: 0,
             place: 0,
         };
     }
-    let place = blocks::place(last);
-    if place as u32 == NONE {
-        return First {
-            number: blocks - 1,
-            used: used as usize,
-            place: used as u32,
-        };
-    }
+    let place = u32::from(blocks::place(last));
     First {
         number: blocks - 1,
-        used: used as usize,
-        place: place as u32,
+        used,
+        place: if place == NONE { used as u32 } else { place },
     }
 }
 
@@ -173,15 +164,15 @@ fn chain(room: &mut [u8], number: u32, place: u32, payload: &[u8])
         × ((number + blocks_for (length payload.now) ≤ 65536) × (place < 65536)) }
     ensures { room.new ≡ laid room.old 0 (chained (blocks_for (length payload.now)) number place payload.now) }
 {
-    let mut at = 0;
-    let mut to = 0;
-    let mut next = number;
     let mut first = place;
-    while at < payload.len() {
-        lay(room, to, next, first, &payload[at..]);
-        at += PAYLOAD;
-        to += BLOCK;
-        next += 1;
+    for i in 0..blocks_for(payload.len()) {
+        lay(
+            room,
+            BLOCK * i,
+            number + i as u32,
+            first,
+            &payload[PAYLOAD * i..],
+        );
         first = NONE;
     }
 }
@@ -199,7 +190,6 @@ fn gather(out: &mut [u8], first: &[u8], second: &[u8], third: &[u8])
 
 // The blocks of what the first one has, which stands in the room from a place on, and of the record behind it.
 fn put(first: First, from: usize, room: &mut [u8], head: &[u8], body: &[u8])
-    requires used_bound { (first.used < PAYLOAD) × (first.place < 65536) }
     requires in_bounds { (ROOM ≤ length room.old) × ((from + PAYLOAD ≤ length room.old) × (length head.now + length body.now ≤ RECORD_MAX)) }
     requires body_bound { first.number + blocks_for (first.used + (length head.now + length body.now)) ≤ BLOCKS_MAX }
     ensures { room.new ≡ laid room.old 0
@@ -214,9 +204,14 @@ fn put(first: First, from: usize, room: &mut [u8], head: &[u8], body: &[u8])
 }
 
 // The same, where it fits in 65,536 blocks.
-fn fill(first: First, from: usize, room: &mut [u8], head: &[u8], body: &[u8]) -> Appended
-    requires number_bound { (first.number ≤ BLOCKS_MAX) × ((first.used < PAYLOAD) × (first.place < 65536)) }
-    requires in_bounds { (ROOM ≤ length room.old) × ((from + PAYLOAD ≤ length room.old) × (length head.now + length body.now ≤ RECORD_MAX)) }
+fn fill(
+    first: First,
+    from: usize,
+    room: &mut [u8],
+    head: &[u8],
+    body: &[u8],
+) -> Result<Log, Refusal>
+    requires { (ROOM ≤ length room.old) × ((from + PAYLOAD ≤ length room.old) × (length head.now + length body.now ≤ RECORD_MAX)) }
     ensures value { result ≡ filled_to first.number (take first.used (drop from room.old) ++ (head.now ++ body.now)) }
     ensures room_after { room.new ≡ filled_with first.number first.place
         (take first.used (drop from room.old) ++ (head.now ++ body.now)) room.old }
@@ -224,23 +219,23 @@ fn fill(first: First, from: usize, room: &mut [u8], head: &[u8], body: &[u8]) ->
     let count = blocks_for(first.used + (head.len() + body.len()));
     let blocks = first.number + count as u32;
     if BLOCKS_MAX < blocks {
-        return Appended::Refused(Refusal::LogFull);
+        return Err(Refusal::LogFull);
     }
     put(first, from, room, head, body);
-    Appended::Put(Log {
+    Ok(Log {
         blocks,
         held: count as u32,
     })
 }
 
 // A record, whose bytes are the head's and behind them the body's.
-fn add(log: Log, room: &mut [u8], head: &[u8], body: &[u8]) -> Appended
+fn add(log: Log, room: &mut [u8], head: &[u8], body: &[u8]) -> Result<Log, Refusal>
     requires { length head.now + length body.now ≤ RECORD_MAX }
     ensures value { result ≡ answer_for log room.old (head.now ++ body.now) }
     ensures room_after { room.new ≡ room_then log room.old (head.now ++ body.now) }
 {
     if !is_lent(log, room) {
-        return Appended::Refused(Refusal::BadCall);
+        return Err(Refusal::BadCall);
     }
     if log.blocks == 0 {
         let first = First {
@@ -256,54 +251,47 @@ fn add(log: Log, room: &mut [u8], head: &[u8], body: &[u8]) -> Appended
 }
 
 // Appends a received PDU. Of a longer one the first 1,601 bytes are logged.
-pub fn append(log: Log, room: &mut [u8], pdu: &[u8]) -> Appended
+pub fn append(log: Log, room: &mut [u8], pdu: &[u8]) -> Result<Log, Refusal>
     ensures value { result ≡ answer_for log room.old (record_of (Received pdu.now)) }
     ensures room_after { room.new ≡ room_then log room.old (record_of (Received pdu.now)) }
 {
-    let n = lists::lesser(CUT, pdu.len());
-    let head = numbers::split(n as u32);
-    add(log, room, &head[..LENGTH], &pdu[..n])
+    let n = pdu.len().min(CUT);
+    add(log, room, &(n as u16).to_le_bytes(), &pdu[..n])
 }
 
 // Appends the local close of a number.
-pub fn close(log: Log, room: &mut [u8], number: u32) -> Appended
+pub fn close(log: Log, room: &mut [u8], number: u32) -> Result<Log, Refusal>
     ensures value { result ≡ answer_for log room.old (record_of (Closed number)) }
     ensures room_after { room.new ≡ room_then log room.old (record_of (Closed number)) }
 {
-    let head = numbers::split(CLOSE);
-    let body = numbers::split(number);
-    add(log, room, &head[..LENGTH], &body)
+    add(
+        log,
+        room,
+        &(CLOSE as u16).to_le_bytes(),
+        &numbers::split(number),
+    )
 }
 
 // Before the first block.
 pub fn begin() -> Reader
     ensures { result ≡ at_first }
 {
-    Reader {
-        within: false,
-        whole: 0,
-        behind: 0,
-        end: End { blocks: 0, used: 0 },
-    }
+    seeking(End { blocks: 0, used: 0 })
 }
 
 // Whether the room is of its size, and what the reader says of it can be.
+#[tactic(auto, using(std::proofs::lemmas::Bool::Decides::nat_tests), unfolding(crate::specs::Turns::is_reader))]
 fn is_reader(reader: Reader, room: &[u8]) -> bool
     ensures { result ≡ is_reader reader room.now }
 {
-    if room.len() < ROOM {
-        return false;
-    }
-    if ROOM < reader.whole {
-        return false;
-    }
-    if ROOM - reader.whole < reader.behind {
-        return false;
-    }
-    reader.behind < RECORD_MAX
+    room.len() >= ROOM
+        && reader.whole <= ROOM
+        && reader.behind <= ROOM - reader.whole
+        && reader.behind < RECORD_MAX
 }
 
 // Whether the length at the front is one that no record has.
+#[tactic(auto, using(std::proofs::lemmas::Bool::Decides::nat_tests), unfolding(crate::specs::Records::is_stray, records::specs::Records::announced, numbers::specs::Numbers::value_at))]
 fn is_stray(input: &[u8]) -> bool
     ensures { result ≡ is_stray input.now }
 {
@@ -311,34 +299,44 @@ fn is_stray(input: &[u8]) -> bool
         return false;
     }
     let announced = numbers::short_at(input, 0);
-    if announced as usize <= CUT {
-        return false;
-    }
-    announced as u32 != CLOSE
+    CUT < usize::from(announced) && u32::from(announced) != CLOSE
 }
 
-// How many bytes the record at the front has, or 0 where no whole record stands there.
-pub fn whole(input: &[u8]) -> usize
-    ensures { result ≡ logged_whole input.now }
+// How many bytes the record at the front needs, as far as those that are there can tell.
+#[tactic(auto, using(std::proofs::lemmas::Bool::Decides::nat_tests), unfolding(crate::specs::Records::needs_of, records::specs::Records::announced, numbers::specs::Numbers::value_at))]
+fn needs(input: &[u8]) -> usize
+    ensures { (result ≡ needs_of input.now) × (LENGTH ≤ result) }
 {
     if input.len() < LENGTH {
-        return 0;
+        return LENGTH;
     }
     let announced = numbers::short_at(input, 0);
-    if announced as u32 == CLOSE {
-        if input.len() < CLOSE_SIZE {
-            return 0;
-        }
+    if u32::from(announced) == CLOSE {
         return CLOSE_SIZE;
     }
-    if CUT < announced as usize {
-        return 0;
+    LENGTH + usize::from(announced)
+}
+
+// How many bytes the record at the front has, where a whole one stands there: any length but a close's announces a PDU.
+#[tactic(auto, using(std::proofs::lemmas::Bool::Decides::nat_tests), unfolding(records::specs::Records::found, records::specs::Desk::whole_by))]
+pub fn framed(input: &[u8]) -> Option<usize>
+    ensures value { result ≡ found (whole_by needs_of input.now) }
+    ensures within { IfSome result (λ n. (LENGTH ≤ n) × (n ≤ length input.now)) }
+{
+    let n = needs(input);
+    (n <= input.len()).then_some(n)
+}
+
+// How many bytes the record at the front has, where a whole one stands there that a log can have.
+#[tactic(auto, using(std::proofs::lemmas::Bool::Decides::nat_tests), unfolding(records::specs::Records::found, crate::specs::Records::logged_whole))]
+pub fn whole(input: &[u8]) -> Option<usize>
+    ensures value { result ≡ found (logged_whole input.now) }
+    ensures within { IfSome result (λ n. (LENGTH ≤ n) × (n ≤ length input.now)) }
+{
+    if is_stray(input) {
+        return None;
     }
-    let size = LENGTH + announced as usize;
-    if input.len() < size {
-        return 0;
-    }
-    size
+    framed(input)
 }
 
 // How many bytes the whole records at the front have.
@@ -346,10 +344,8 @@ fn whole_records(input: &[u8]) -> usize
     ensures { (result ≡ size_of (records_of logged_whole input.now)) × (result ≤ length input.now) }
 {
     let mut at = 0;
-    let mut n = whole(input);
-    while 0 < n {
+    while let Some(n) = whole(&input[at..]) {
         at += n;
-        n = whole(&input[at..]);
     }
     at
 }
@@ -359,11 +355,7 @@ fn bring(room: &mut [u8], from: usize, n: usize)
     requires { from + n ≤ length room.old }
     ensures { room.new ≡ laid room.old 0 (take n (drop from room.old)) }
 {
-    if from == 0 {
-        return;
-    }
-    let to = from + n;
-    lists::to_front(&mut room[..to], from);
+    lists::to_front(&mut room[..from + n], from);
 }
 
 // Bytes from a record's beginning on, which end with the used ones of the block of a number.
@@ -373,22 +365,17 @@ fn go_through(end: End, number: u32, used: usize, input: &[u8]) -> Reader
 {
     let whole = whole_records(input);
     let behind = input.len() - whole;
-    let within = !is_stray(&input[whole..]);
-    if whole == 0 {
-        return Reader {
-            within,
-            whole,
-            behind,
-            end,
-        };
-    }
     Reader {
-        within,
+        within: !is_stray(&input[whole..]),
         whole,
         behind,
-        end: End {
-            blocks: number + 1,
-            used: (used - lists::lesser(used, behind)) as u32,
+        end: if whole == 0 {
+            end
+        } else {
+            End {
+                blocks: number + 1,
+                used: used.saturating_sub(behind) as u32,
+            }
         },
     }
 }
@@ -406,87 +393,90 @@ fn seeking(end: End) -> Reader
 }
 
 // A good block, within a record: its payload comes behind what the record has so far.
-fn go_on(reader: Reader, number: u32, block: &[u8], room: &mut [u8]) -> Reader
-    requires { (is_reader reader room.old ≡ true) × ((number < 65536) × ((length block.now ≡ BLOCK) × (used_in block.now ≤ PAYLOAD))) }
-    ensures value { result ≡ reader_with reader number block.now
-        (entered (Within (take reader.behind (drop reader.whole room.old))) block.now) }
+fn go_on(reader: Reader, good: Good<'_>, room: &mut [u8]) -> Reader
+    requires { is_reader reader room.old ≡ true }
+    ensures value { result ≡ reader_with reader good.entry.number good.entry.block.now
+        (entered (Within (take reader.behind (drop reader.whole room.old))) good.entry.block.now) }
     ensures room_after { room.new ≡ laid room.old 0
-        (brought_by (Within (take reader.behind (drop reader.whole room.old))) block.now) }
+        (brought_by (Within (take reader.behind (drop reader.whole room.old))) good.entry.block.now) }
 {
-    let used = blocks::used(block) as usize;
+    let used = usize::from(blocks::used(good.block));
     let held = reader.behind;
     bring(room, reader.whole, held);
-    lists::copy_at(room, held, &block[HEAD..HEAD + used]);
-    go_through(reader.end, number, used, &room[..held + used])
+    lists::copy_at(room, held, &good.block[HEAD..HEAD + used]);
+    go_through(reader.end, good.number, used, &room[..held + used])
 }
 
 // A good block, from the place where its first record begins.
-fn go_in(reader: Reader, number: u32, block: &[u8], room: &mut [u8]) -> Reader
-    requires room_value { (is_reader reader room.old ≡ true) × ((number < 65536) × ((length block.now ≡ BLOCK) × (used_in block.now ≤ PAYLOAD))) }
-    requires block_value { may_begin (used_in block.now) (place_in block.now) ≡ true }
-    ensures value { result ≡ reader_with reader number block.now (entered Seeking block.now) }
-    ensures room_after { room.new ≡ laid room.old 0 (brought_by Seeking block.now) }
+fn go_in(reader: Reader, good: Good<'_>, room: &mut [u8]) -> Reader
+    requires { is_reader reader room.old ≡ true }
+    ensures value { result ≡ reader_with reader good.entry.number good.entry.block.now (entered Seeking good.entry.block.now) }
+    ensures room_after { room.new ≡ laid room.old 0 (brought_by Seeking good.entry.block.now) }
 {
-    let place = blocks::place(block);
-    if place as u32 == NONE {
+    let place = blocks::place(good.block);
+    if u32::from(place) == NONE {
         return seeking(reader.end);
     }
-    let used = blocks::used(block) as usize;
-    let size = used - place as usize;
-    let from = HEAD + place as usize;
-    lists::copy(room, &block[from..from + size]);
-    go_through(reader.end, number, used, &room[..size])
+    let place = usize::from(place);
+    let used = usize::from(blocks::used(good.block));
+    let size = used - place;
+    let from = HEAD + place;
+    lists::copy(room, &good.block[from..from + size]);
+    go_through(reader.end, good.number, used, &room[..size])
 }
 
 // Whether the block of a number is the last of so many.
+#[tactic(auto, using(std::proofs::lemmas::Bool::Decides::nat_tests), unfolding(crate::specs::Turns::is_last_of))]
 fn is_last_of(blocks: u32, number: u32) -> bool
     ensures { result ≡ is_last_of blocks number }
 {
-    if blocks == 0 {
-        return false;
-    }
-    number == blocks - 1
+    blocks != 0 && number == blocks - 1
 }
 
 // A good block.
-fn enter(reader: Reader, number: u32, block: &[u8], room: &mut [u8]) -> Reader
-    requires room_value { (is_reader reader room.old ≡ true) × ((number < 65536) × ((length block.now ≡ BLOCK) × (used_in block.now ≤ PAYLOAD))) }
-    requires block_value { may_begin (used_in block.now) (place_in block.now) ≡ true }
-    ensures value { result ≡ reader_with reader number block.now (entered (course_in reader room.old) block.now) }
-    ensures room_after { room.new ≡ laid room.old 0 (brought_by (course_in reader room.old) block.now) }
+fn enter(reader: Reader, good: Good<'_>, room: &mut [u8]) -> Reader
+    requires { is_reader reader room.old ≡ true }
+    ensures value { result ≡ reader_with reader good.entry.number good.entry.block.now (entered (course_in reader room.old) good.entry.block.now) }
+    ensures room_after { room.new ≡ laid room.old 0 (brought_by (course_in reader room.old) good.entry.block.now) }
 {
     if reader.within {
-        return go_on(reader, number, block, room);
+        return go_on(reader, good, room);
     }
-    go_in(reader, number, block, room)
+    go_in(reader, good, room)
 }
 
 // Reads the block of a number, of a log of so many. At the room's front then stand the bytes of the records that it makes whole, one
 // behind the other, and behind them those of one that isn't whole.
-pub fn turn(reader: Reader, blocks: u32, number: u32, block: &[u8], room: &mut [u8]) -> Turned
+pub fn turn(
+    reader: Reader,
+    blocks: u32,
+    number: u32,
+    block: &[u8],
+    room: &mut [u8],
+) -> Result<Reader, Refusal>
     ensures value { result ≡ turned_to reader blocks number block.now room.old }
     ensures room_after { room.new ≡ room_after reader blocks number block.now room.old }
 {
     if !is_reader(reader, room) {
-        return Turned::Refused(Refusal::BadCall);
+        return Err(Refusal::BadCall);
     }
     if !blocks::good(block, number, is_last_of(blocks, number)) {
-        return Turned::Stands(seeking(reader.end));
+        return Ok(seeking(reader.end));
     }
-    Turned::Stands(enter(reader, number, block, room))
+    Ok(enter(reader, Good { number, block }, room))
 }
 
 // A log that was stopped between two appends, taken up from its last block, which is to stand at the room's front.
-pub fn take_up(blocks: u32, block: &[u8]) -> Appended
+pub fn take_up(blocks: u32, block: &[u8]) -> Result<Log, Refusal>
     ensures { result ≡ taken_up blocks block.now }
 {
     if blocks == 0 {
-        return Appended::Put(Log { blocks: 0, held: 0 });
+        return Ok(Log { blocks: 0, held: 0 });
     }
     if !blocks::good(block, blocks - 1, true) {
-        return Appended::Refused(Refusal::BadCall);
+        return Err(Refusal::BadCall);
     }
-    Appended::Put(Log { blocks, held: 1 })
+    Ok(Log { blocks, held: 1 })
 }
 
 // Whether the room is of its size, and has the block that holds the end at its front.
@@ -500,7 +490,7 @@ fn may_shorten(end: End, room: &[u8]) -> bool
     if !may_be_last(end.blocks, block) {
         return false;
     }
-    end.used <= blocks::used(block) as u32
+    end.used <= u32::from(blocks::used(block))
 }
 
 // Cuts the block at the room's front behind so many bytes of its payload.
@@ -510,27 +500,28 @@ fn shorten(number: u32, used: usize, room: &mut [u8])
 {
     let block = &mut room[..BLOCK];
     let place = blocks::place(block);
-    if (place as usize) < used {
-        blocks::seal(block, number, place as u32, used, b"");
-        return;
-    }
-    blocks::seal(block, number, NONE, used, b"");
+    let first = if usize::from(place) < used {
+        u32::from(place)
+    } else {
+        NONE
+    };
+    blocks::seal(block, number, first, used, b"");
 }
 
 // A log taken back to the end of its last whole record, after a loss of power inside an append: the block that holds the end stands at the
 // room's front, and is made anew with nothing behind it. The blocks behind it are to be taken off the log before it is put.
-pub fn take_back(end: End, room: &mut [u8]) -> Appended
+pub fn take_back(end: End, room: &mut [u8]) -> Result<Log, Refusal>
     ensures value { result ≡ took_back end room.old }
     ensures room_after { room.new ≡ room_back end room.old }
 {
     if end.blocks == 0 {
-        return Appended::Put(Log { blocks: 0, held: 0 });
+        return Ok(Log { blocks: 0, held: 0 });
     }
     if !may_shorten(end, room) {
-        return Appended::Refused(Refusal::BadCall);
+        return Err(Refusal::BadCall);
     }
     shorten(end.blocks - 1, end.used as usize, room);
-    Appended::Put(Log {
+    Ok(Log {
         blocks: end.blocks,
         held: 1,
     })

@@ -1,19 +1,26 @@
 -- A walk over a list from name to name: at a place, n bytes stand before the next zero byte. With it they are a name in front of what is
 -- left, without it they are all that is left.
 -- Assumes nothing.
-use mathlib.Core.Path.{◌≡◌, ap, ◌∙◌}
+use mathlib.Core.Path.{◌≡◌, sym, ap, ◌∙◌}
 use mathlib.Core.Bool.{true, false, ◌||◌}
-use mathlib.Core.List.{List, ◌∷◌, ◌++◌}
-use Prim.Native.Nat.{ℕ, ◌+◌, ◌-◌, ◌≤◌, ◌<◌}
+use mathlib.Core.List.{List, [], ◌∷◌, ◌++◌}
+use Prim.Native.Nat.{ℕ, suc, ◌+◌, ◌-◌, ◌≤◌, ◌<◌}
 use native.Mathlib.Omega.{arith}
-use lib.ListN.{length, take, drop, length-drop, drop_of_length-le}
+use native.Mathlib.Numerals.{add-one}
+use borrow.Author.Tests.{ne_eqb}
+use lib.Dec.{eqb}
+use lib.Pointwise.{pointwise}
+use lib.ListN.{length, take, drop, length-drop}
 use Rattle.lists.specs.Places.{place}
 use Rattle.lists.specs.Bytes.{is_zero}
-use Rattle.lists.proofs.Cuts.{cut_on, clean_on, length_on, clean_last}
-use Rattle.lists.proofs.Laid.{from_to}
-use Rattle.listeners.specs.Listeners.{names, same_bytes, is_one_of, all_names}
+use Rattle.lists.proofs.Cuts.{cut_at_law, cut_on, clean_on, length_on, clean_last}
+use Rattle.lists.proofs.Laid.{to_end}
+use Rattle.lists.proofs.Places.{clean_before}
+use Rattle.listeners.specs.Listeners.{names, is_one_of, all_names}
 use Rattle.listeners.proofs.Names.{Clean, names_none}
+use Rattle.listeners.proofs.Matches.{same_pointwise}
 use Rattle.listeners.proofs.Lists.{all_none, all_empty, all_unended, all_front, one_none, one_front}
+use Rattle.listeners.proofs.Lists.{good_all, too_long, listed_names, empty_unlisted}
 
 module _ (list : List ℕ) (at n : ℕ) (first : n ≡ place is_zero (take (length list - at) (drop at list))) where
   cut : n < length list - at → drop at list ≡ take n (drop at list) ++ (0 ∷ drop (at + (n + 1)) list)
@@ -39,30 +46,43 @@ module _ (list : List ℕ) (at n : ℕ) (first : n ≡ place is_zero (take (leng
   pub good_unended : at < length list → length list - at ≤ n → all_names (drop at list) ≡ false
   good_unended k h = all_unended (drop at list) (rw length-drop (omega arith)) (last h)
 
-  -- ---- the name is one of the list's, or not
+-- ---- the first name, and what stands behind its zero byte
 
-  one_on : (name : List ℕ) → n < length list - at → is_one_of (names (drop at list)) name
-      ≡ (same_bytes (take (at + n - at) (drop at list)) name || is_one_of (names (drop (at + (n + 1)) list)) name)
-  one_on name h = rw (from_to list at n)
-      (ap (λ (l : List ℕ). is_one_of (names l) name) (cut h) ∙ one_front _ _ name clean)
+-- n bytes stand before the first zero byte
+pub name_cut : (list : List ℕ) (n : ℕ) → n ≡ place is_zero list → n < length list
+    → (list ≡ take n list ++ (0 ∷ take (length list - (n + 1)) (drop (n + 1) list))) × (place is_zero (take n list) ≡ length (take n list))
+name_cut list n e h =
+    rw (to_end list (n + 1), add-one, e) (cut_at_law 0 list (rw e at h), clean_before is_zero list)
 
-  pub one_here : (name : List ℕ) → n < length list - at → same_bytes (take (at + n - at) (drop at list)) name ≡ true
-      → is_one_of (names (drop at list)) name ≡ true
-  one_here name h e = rw e at (one_on name h)
+module _ (list name behind : List ℕ) (cut : list ≡ name ++ (0 ∷ behind)) (clean : place is_zero name ≡ length name) where
+  pub good_front : 0 < length name → all_names list ≡ all_names behind
+  good_front h = rw cut (all_front name behind h clean)
 
-  pub one_next : (name : List ℕ) → n < length list - at → same_bytes (take (at + n - at) (drop at list)) name ≡ false
-      → is_one_of (names (drop at list)) name ≡ is_one_of (names (drop (at + (n + 1)) list)) name
-  one_next name h e = rw e at (one_on name h)
+  pub good_nameless : length name ≡ 0 → all_names list ≡ false
+  good_nameless h = rw cut (none name h)
+    where
+      none : (name : List ℕ) → length name ≡ 0 → all_names (name ++ (0 ∷ behind)) ≡ false
+      none [] h = all_empty behind
+      none (b ∷ name) h = absurd (omega arith)
 
-  pub one_unended : (name : List ℕ) → length list - at ≤ n → is_one_of (names (drop at list)) name ≡ false
-  one_unended name h = ap (λ (ns : List (List ℕ)). is_one_of ns name) (names_none (drop at list) (last h))
-      ∙ one_none name
+  one_on : (x : List ℕ) → is_one_of (names list) x ≡ (pointwise eqb name x || is_one_of (names behind) x)
+  one_on x = rw (cut, ← (same_pointwise name x)) (one_front name behind x clean)
 
--- at the end
+  pub one_here : (x : List ℕ) → pointwise eqb name x ≡ true → is_one_of (names list) x ≡ true
+  one_here x e = rw e at (one_on x)
 
-pub good_end : (list : List ℕ) (at : ℕ) → length list ≤ at → all_names (drop at list) ≡ true
-good_end list at h = rw (drop_of_length-le list h) all_none
+  pub one_next : (x : List ℕ) → pointwise eqb name x ≡ false → is_one_of (names list) x ≡ is_one_of (names behind) x
+  one_next x e = rw e at (one_on x)
 
-pub one_end : (list name : List ℕ) (at : ℕ) → length list ≤ at → is_one_of (names (drop at list)) name ≡ false
-unfolding names
-one_end list name at h = rw (drop_of_length-le list h) (one_none name)
+-- with no name left
+pub good_last : (list : List ℕ) → place is_zero list ≡ length list → all_names list ≡ eqb (length list) 0
+good_last [] h = all_none
+good_last (b ∷ list) h = all_unended (b ∷ list) (omega arith) h ∙ sym (ne_eqb (suc (length list)) 0 (λ e. omega arith))
+
+pub one_last : (list x : List ℕ) → place is_zero list ≡ length list → is_one_of (names list) x ≡ false
+one_last list x h = rw (names_none list h) (one_none x)
+
+-- what `good` and `listed` rest on
+pub ruleset judging = (good_all, too_long, good_front, good_nameless, good_last)
+
+pub ruleset looking = (listed_names, empty_unlisted, one_here, one_next, one_last)

@@ -12,7 +12,7 @@ use lib.ListN.{length, take, drop, length-drop, drop_of_length-le}
 use lib.Seq.{drop-drop, length-take-le, take_all}
 use Rattle.lists.specs.Places.{place, here_or}
 use Rattle.lists.specs.Bytes.{is_byte}
-use Rattle.lists.specs.Lines.{LF, in_first, lines_in}
+use Rattle.lists.specs.Lines.{LF, in_first, lines_in, first_line, behind_line}
 use Rattle.lists.proofs.Cases.{lt_or_le}
 use Rattle.lists.proofs.Places.{place_le, clean_before}
 use Rattle.lists.proofs.Laid.{to_end}
@@ -96,3 +96,27 @@ lines_on text at n first there =
     let none : drop (at + (n + 1)) text ≡ [] = drop_of_length-le text {i = at + (n + 1)} (omega arith) in
     rw (all, none) (lines_last (drop at text) (rw length-drop (omega arith)) (clean_last LF text at n first h)))
     (lt_or_le n (length text - at))
+
+-- the first line of a text, and those behind it
+pub lines_first : (text : List ℕ) → 0 < length text → lines_in text ≡ first_line text ∷ lines_in (behind_line text)
+unfolding lines_in
+lines_first text there =
+    ⊎_elim
+    (λ (h : place (is_byte LF) text < length text).
+    ap lines_in (cut_at_law LF text h) ∙ rw (add-one (place (is_byte LF) text)) (lines_front (first_line text) (drop (suc (place (is_byte LF) text)) text) (clean_before (is_byte LF) text)))
+    (λ (h : length text ≤ place (is_byte LF) text).
+    let whole : place (is_byte LF) text ≡ length text = omega (arith, place_le (is_byte LF) text) in
+    let all : first_line text ≡ text = take_all (place (is_byte LF) text) text h in
+    let none : behind_line text ≡ [] = drop_of_length-le text {i = place (is_byte LF) text + 1} (omega arith) in
+    lines_last text there whole ∙ rw (all, none))
+    (lt_or_le (place (is_byte LF) text) (length text))
+
+-- neither is longer than the text, and behind the line there is less
+pub line_parts : (text : List ℕ) → 0 < length text
+    → (length (first_line text) ≤ length text) × ((length (behind_line text) < length text) × (length (first_line text) + length (behind_line text) ≤ length text))
+line_parts text there =
+    let n = place (is_byte LF) text in
+    let within = place_le (is_byte LF) text in
+    let front = length-take-le n text within in
+    let rest = length-drop (n + 1) text in
+    (omega arith, (omega arith, omega arith))

@@ -3,17 +3,13 @@
 -- Assumes nothing.
 use mathlib.Core.Path.{◌≡◌}
 use Rattle.lists.proofs.Cases.{same}
-use Rattle.lists.proofs.lesser.Reads as lesser
 use Rattle.lists.proofs.copy.Reads as copy
 use Rattle.lists.proofs.copy_at.Reads as copy_at
 use Rattle.lists.proofs.to_front.Reads as to_front
 use Rattle.lists.proofs.clear.Reads as clear
 use Rattle.lists.proofs.first_of.Reads as first_of
 use Rattle.lists.proofs.first_zero.Reads as first-zero
-
-pub lesser_one : (κs : _) (a : _) (r r' : _) (s s' : _) → lesser.Post κs a r s → lesser.Post κs a r' s'
-    → r ≡ r'
-lesser_one κs a r r' s s' p q = same p q
+use Rattle.lists.proofs.first_line.Reads as first-line
 
 pub copy_one : (κs : _) (a : _) (r r' : _) (s s' : _) → copy.Post κs a r s → copy.Post κs a r' s'
     → s.0.now ≡ s'.0.now
@@ -37,3 +33,8 @@ first_of_one κs a r r' s s' p q = same p q
 pub first_zero_one : (κs : _) (a : _) (r r' : _) (s s' : _) → first-zero.Post κs a r s → first-zero.Post κs a r' s'
     → r ≡ r'
 first_zero_one κs a r r' s s' p q = same p q
+
+-- the line and what is behind it
+pub first_line_one : (κs : _) (a : _) (r r' : _) (s s' : _) → first-line.Post κs a r s → first-line.Post κs a r' s'
+    → (r.0.now ≡ r'.0.now) × (r.1.now ≡ r'.1.now)
+first_line_one κs a r r' s s' p q = (same p.0 q.0, same p.1 q.1)

@@ -1,13 +1,19 @@
 -- The laws of the first place that passes a test.
 -- Assumes nothing.
 use mathlib.Core.Path.{◌≡◌, refl, ap}
-use mathlib.Core.Bool.{Bool, true, false}
+use mathlib.Core.Bool.{Bool, true, false, cond}
 use mathlib.Core.List.{List, [], ◌∷◌, ◌++◌}
 use Prim.Native.Nat.{ℕ, zero, suc, ◌+◌, ◌≤◌, ◌<◌}
 use native.Mathlib.Omega.{arith}
 use native.Mathlib.Numerals.{add-one}
+use mathlib.Core.Logic.{⊎_elim}
+use borrow.Author.Tests.{lt-ltb, le-ltb}
+use Rattle.lists.proofs.Cases.{lt_or_le}
 use lib.ListN.{length, take, drop, get_or, set, drop_of_length-le}
 use lib.Seq.{drop-cons}
+use Rattle.std.specs.List.{position}
+use Rattle.std.specs.Option.{unwrap_or}
+use Rattle.std.proofs.lemmas.List.Recursion.{is_position_or_len}
 use Rattle.lists.specs.Places.{place, here_or}
 
 module _ {A : Type 0} (p : A → Bool) where
@@ -19,6 +25,20 @@ module _ {A : Type 0} (p : A → Bool) where
       go : (b : Bool) → place p t ≤ length t → here_or b (place p t) ≤ suc (length t)
       go true h = omega arith
       go false h = omega arith
+
+  -- it is the library's first index, or the length
+  pub place_position : (t : List A) → unwrap_or (position p t) (length t) ≡ place p t
+  unfolding place
+  place_position t =
+      rw (← (is_position_or_len (place p) p refl (λ x xs. turn (p x) (place p xs)) t))
+      (⊎_elim
+      (λ (h : place p t < length t). rw (lt-ltb (place p t) (length t) h))
+      (λ (h : length t ≤ place p t). rw (le-ltb (place p t) (length t) h) (omega (arith, place_le t)))
+      (lt_or_le (place p t) (length t)))
+    where
+      turn : (b : Bool) (n : ℕ) → here_or b n ≡ cond b 0 (1 + n)
+      turn true n = refl
+      turn false n = omega arith
 
   -- before the first that passes nothing does
   pub clean_before : (t : List A) → place p (take (place p t) t) ≡ length (take (place p t) t)

@@ -4,30 +4,22 @@
 // zeros. proofs/ has their laws. The functions copy, clear and look for a byte. Each takes slices of any length.
 #![tactic(auto)]
 
-ghost use Rattle.std.specs.Prelude.{◌≡◌, min, length, drop};
+ghost use Rattle.std.specs.Prelude.{◌≡◌, length, drop};
 ghost use Rattle.lists.specs.Bytes.{laid, zeros, is_byte, is_zero};
 ghost use Rattle.lists.specs.Places.{place};
-
-// The lesser of two numbers.
-pub fn lesser(a: usize, b: usize) -> usize
-    ensures { result ≡ min a b }
-{
-    if a < b { a } else { b }
-}
+ghost use Rattle.lists.specs.Lines.{first_line, behind_line};
 
 // Copies the block to the front of the part. Bytes behind it stay, and what doesn't fit is left out.
+#[tactic(auto, using(crate::proofs::Laid::laid_front))]
 pub fn copy(part: &mut [u8], block: &[u8])
     ensures { part.new ≡ laid part.old 0 block.now }
 {
-    let n = lesser(part.len(), block.len());
-    let mut i = 0;
-    while i < n {
-        part[i] = block[i];
-        i += 1;
-    }
+    let n = part.len().min(block.len());
+    part[..n].copy_from_slice(&block[..n]);
 }
 
 // Copies the block into the part from a place on. Bytes before and behind it stay, and what doesn't fit is left out.
+#[tactic(auto, using(crate::proofs::Laid::back_end, crate::proofs::Laid::laid_past))]
 pub fn copy_at(part: &mut [u8], at: usize, block: &[u8])
     ensures { part.new ≡ laid part.old at block.now }
 {
@@ -38,39 +30,28 @@ pub fn copy_at(part: &mut [u8], at: usize, block: &[u8])
 }
 
 // Moves the bytes from a place on to the front. Bytes behind where they come to stay.
+#[tactic(auto, using(crate::proofs::Laid::laid_moved, crate::proofs::Laid::laid_same))]
 pub fn to_front(bytes: &mut [u8], from: usize)
     ensures { bytes.new ≡ laid bytes.old 0 (drop from bytes.old) }
 {
-    let mut i = from;
-    while i < bytes.len() {
-        bytes[i - from] = bytes[i];
-        i += 1;
+    if 0 < from && from < bytes.len() {
+        bytes.copy_within(from.., 0);
     }
 }
 
 // Every byte of the part becomes zero.
+#[tactic(auto, unfolding(crate::specs::Bytes::zeros))]
 pub fn clear(part: &mut [u8])
     ensures { part.new ≡ zeros (length part.old) }
 {
-    let mut i = 0;
-    while i < part.len() {
-        part[i] = 0;
-        i += 1;
-    }
+    part.fill(0);
 }
 
-// The place of the first byte that is this one, or the length where there is none.
+// The place of the first byte that is this one, or the length where there is none: so it cuts the bytes in either case.
 pub fn first_of(bytes: &[u8], byte: u8) -> usize
     ensures { result ≡ place (is_byte byte) bytes.now }
 {
-    let mut i = 0;
-    while i < bytes.len() {
-        if bytes[i] == byte {
-            return i;
-        }
-        i += 1;
-    }
-    i
+    bytes.iter().position(|b| *b == byte).unwrap_or(bytes.len())
 }
 
 // The place of the first zero byte, or the length where there is none.
@@ -78,4 +59,14 @@ pub fn first_zero(bytes: &[u8]) -> usize
     ensures { result ≡ place is_zero bytes.now }
 {
     first_of(bytes, 0)
+}
+
+// The first line of a text, without its end, and what is behind it.
+pub fn first_line(text: &[u8]) -> (&[u8], &[u8])
+    ensures line { result.0.now ≡ first_line text.now }
+    ensures behind { result.1.now ≡ behind_line text.now }
+{
+    let end = first_of(text, b'\n');
+    let next = text.len().min(end + 1);
+    (&text[..end], &text[next..])
 }

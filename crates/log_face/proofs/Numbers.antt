@@ -4,6 +4,7 @@ use mathlib.Core.Bool.{Bool, true, false}
 use Prim.Native.Nat.{◌+◌, ◌*◌, ◌/◌, ◌%◌, ◌≤◌, ◌<◌}
 use native.Mathlib.Omega.{arith}
 use lib.Dec.{eqb}
+use mir.Val.{bool_byte}
 use Rattle.linklog.specs.declared.Log.{Log}
 use Rattle.linklog.specs.declared.End.{End}
 use Rattle.linklog.specs.declared.Reader.{Reader}
@@ -24,6 +25,16 @@ unfolding log_word
 log_small log few held = omega (arith, few, held)
 
 -- ---- a reader
+
+-- whether it is within a record, as the library has it in a number
+pub bit_is : (b : Bool) → bool_byte b ≡ bit b
+unfolding bit
+bit_is true = refl
+bit_is false = refl
+
+pub bit_below : (b : Bool) → bool_byte b < 2
+bit_below true = omega arith
+bit_below false = omega arith
 
 -- its parts are small enough
 pub record Small (reader : Reader) : Type 0 where

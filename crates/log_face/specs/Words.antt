@@ -1,18 +1,14 @@
 -- What a host in C keeps of a log: a log and a reader each in one number, and an answer as that number or as a refusal's below zero.
-use Rattle.std.specs.Prelude.{ℕ, ◌+◌, ◌*◌, ◌/◌, ◌%◌, Bool, cond, List, ltb, eqb, ℤ, pos, neg_ℤ}
+use Rattle.std.specs.Prelude.{ℕ, ◌+◌, ◌*◌, ◌/◌, ◌%◌, Bool, cond, List, ltb, eqb, ℤ, pos, neg_ℤ, Result, Ok, Err}
 use Rattle.paper.specs.Refusals.{refusal_number}
 use Rattle.paper.specs.declared.Refusal.TheVariants.{BadCall}
 use Rattle.linklog.specs.declared.Log.{Log}
 use Rattle.linklog.specs.declared.End.{End}
 use Rattle.linklog.specs.declared.Reader.{Reader}
-use Rattle.linklog.specs.declared.Appended.{Appended}
-use Rattle.linklog.specs.declared.Appended.TheVariants.{Put, Refused}
-use Rattle.linklog.specs.declared.Turned.{Turned}
-use Rattle.linklog.specs.declared.Turned.TheVariants.{Stands}
-use Rattle.linklog.specs.declared.Turned.TheVariants as turned
 use Rattle.linklog.specs.Appending.{answer_for, room_then}
 use Rattle.linklog.specs.Turns.{turned_to, room_after}
 use Rattle.linklog.specs.Taking.{took_back, room_back}
+use Rattle.paper.specs.declared.Refusal.{Refusal}
 
 -- ---- a log
 
@@ -33,9 +29,13 @@ log_in word = record { blocks = word / HELDS; held = word % HELDS }
 unfoldable pub refused_as : ℕ → ℤ
 refused_as number = neg_ℤ (pos number)
 
-unfoldable pub log_number : Appended → ℤ
-log_number (Put log) = pos (log_word log)
-log_number (Refused why) = refused_as (refusal_number why)
+-- an answer as a number, by that of what it tells
+abbrev pub number_of : {A : Type 0} → (A → ℕ) → Result A Refusal → ℤ
+number_of word (Ok kept) = pos (word kept)
+number_of word (Err why) = refused_as (refusal_number why)
+
+unfoldable pub log_number : Result Log Refusal → ℤ
+log_number = number_of log_word
 
 -- what a call answers for a number that may be a log's
 unfoldable pub append_number : ℕ → List ℕ → List ℕ → ℤ
@@ -85,9 +85,8 @@ read_in word =
       end = end_in (word / WHOLES / BEHINDS / 2);
     }
 
-unfoldable pub read_number : Turned → ℤ
-read_number (Stands reader) = pos (read_word reader)
-read_number (turned.Refused why) = refused_as (refusal_number why)
+unfoldable pub read_number : Result Reader Refusal → ℤ
+read_number = number_of read_word
 
 unfoldable pub turn_number : ℕ → ℕ → ℕ → List ℕ → List ℕ → ℤ
 turn_number word blocks number block room =

@@ -5,15 +5,15 @@
 // `dvc_log_take_back` takes a log back to where the last whole record ends that was read. A refusal's number comes below zero.
 #![tactic(auto)]
 
-ghost use Rattle.std.specs.Prelude.{◌≡◌, ◌<◌, ◌^◌};
+ghost use Rattle.std.specs.Prelude.{◌≡◌, ℕ, ◌<◌, ◌^◌};
 ghost use Rattle.linklog.specs.Records.{Received, Closed, record_of};
 ghost use Rattle.linklog.specs.Taking.{taken_up};
-ghost use Rattle.log_face.specs.Words.{LOGS, READS, log_word, log_in, log_number, append_number, append_room, bit, end_word, end_in};
-ghost use Rattle.log_face.specs.Words.{read_word, read_in, read_number, turn_number};
+ghost use Rattle.log_face.specs.Words.{LOGS, READS, number_of, log_word, log_in, log_number, append_number, append_room, end_word, end_in};
+ghost use Rattle.log_face.specs.Words.{read_word, read_in, turn_number};
 ghost use Rattle.log_face.specs.Words.{turn_room, back_number, back_room, refused_as};
 ghost use Rattle.paper.specs.Refusals.{refusal_number};
 
-use linklog::{Appended, End, Log, Reader, Turned};
+use linklog::{End, Log, Reader};
 use paper::Refusal;
 
 // The numbers of a log: the held blocks below eight, and the log's blocks above.
@@ -39,12 +39,45 @@ fn refused(why: Refusal) -> i64
     -(paper::refusal_number(why) as i64)
 }
 
-fn log_word(log: Log) -> u64
-    ensures { (result ≡ log_word log) × (result < 2 ^ 63) }
-{
-    log.held as u64 + HELDS * log.blocks as u64
+// What a host keeps as one number.
+trait Word: Copy {
+    ghost word: { Self → ℕ };
+
+    fn word(self) -> u64
+        ensures { (result ≡ word self) × (result < 2 ^ 63) };
 }
 
+impl Word for Log {
+    ghost word = { log_word };
+
+    #[tactic(auto, unfolding(crate::specs::Words::log_word))]
+    fn word(self) -> u64 {
+        self.held as u64 + HELDS * self.blocks as u64
+    }
+}
+
+impl Word for Reader {
+    ghost word = { read_word };
+
+    fn word(self) -> u64 {
+        self.whole as u64 % WHOLES
+            + WHOLES
+                * (self.behind as u64 % BEHINDS
+                    + BEHINDS * (u64::from(self.within) + 2 * end_word(self.end)))
+    }
+}
+
+// What a call answers: the next number, or a refusal below zero.
+fn as_number<T: Word>(answer: Result<T, Refusal>) -> i64
+    ensures { result ≡ number_of T.word answer }
+{
+    match answer {
+        Ok(kept) => kept.word() as i64,
+        Err(why) => refused(why),
+    }
+}
+
+#[tactic(auto, unfolding(crate::specs::Words::log_in))]
 fn log_in(word: u64) -> Log
     requires { word < LOGS }
     ensures { result ≡ log_in word }
@@ -55,39 +88,14 @@ fn log_in(word: u64) -> Log
     }
 }
 
-fn log_number(answer: Appended) -> i64
-    ensures { result ≡ log_number answer }
-{
-    match answer {
-        Appended::Put(log) => log_word(log) as i64,
-        Appended::Refused(why) => refused(why),
-    }
-}
-
-fn bit(b: bool) -> u64
-    ensures { (result ≡ bit b) × (result < 2) }
-{
-    if b {
-        return 1;
-    }
-    0
-}
-
+#[tactic(auto, unfolding(crate::specs::Words::end_word))]
 fn end_word(end: End) -> u64
     ensures { (result ≡ end_word end) × (result < 67108864) }
 {
     end.blocks as u64 % ENDS + ENDS * (end.used as u64 % USEDS)
 }
 
-fn read_word(reader: Reader) -> u64
-    ensures { (result ≡ read_word reader) × (result < 2 ^ 63) }
-{
-    reader.whole as u64 % WHOLES
-        + WHOLES
-            * (reader.behind as u64 % BEHINDS
-                + BEHINDS * (bit(reader.within) + 2 * end_word(reader.end)))
-}
-
+#[tactic(auto, unfolding(crate::specs::Words::end_in))]
 fn end_in(word: u64) -> End
     ensures { result ≡ end_in word }
 {
@@ -97,6 +105,7 @@ fn end_in(word: u64) -> End
     }
 }
 
+#[tactic(auto, unfolding(crate::specs::Words::read_in))]
 fn read_in(word: u64) -> Reader
     ensures { result ≡ read_in word }
 {
@@ -109,14 +118,7 @@ fn read_in(word: u64) -> Reader
     }
 }
 
-fn read_number(answer: Turned) -> i64
-    ensures { result ≡ read_number answer }
-{
-    match answer {
-        Turned::Stands(reader) => read_word(reader) as i64,
-        Turned::Refused(why) => refused(why),
-    }
-}
+// The C interface: a log and a reader are numbers, and so is an answer.
 
 // Appends a received PDU.
 #[unsafe(no_mangle)]
@@ -127,7 +129,7 @@ pub extern "C" fn dvc_log_append(log: u64, room: &mut [u8], pdu: &[u8]) -> i64
     if LOGS <= log {
         return refused(Refusal::BadCall);
     }
-    log_number(linklog::append(log_in(log), room, pdu))
+    as_number(linklog::append(log_in(log), room, pdu))
 }
 
 // Appends the local close of a number.
@@ -139,7 +141,7 @@ pub extern "C" fn dvc_log_close(log: u64, room: &mut [u8], number: u32) -> i64
     if LOGS <= log {
         return refused(Refusal::BadCall);
     }
-    log_number(linklog::close(log_in(log), room, number))
+    as_number(linklog::close(log_in(log), room, number))
 }
 
 // Takes a log up again after a stop between two appends, from its last block.
@@ -147,7 +149,7 @@ pub extern "C" fn dvc_log_close(log: u64, room: &mut [u8], number: u32) -> i64
 pub extern "C" fn dvc_log_take_up(blocks: u32, block: &[u8]) -> i64
     ensures { result ≡ log_number (taken_up blocks block.now) }
 {
-    log_number(linklog::take_up(blocks, block))
+    as_number(linklog::take_up(blocks, block))
 }
 
 // Reads the block of a number, of a log of so many.
@@ -165,7 +167,7 @@ pub extern "C" fn dvc_log_read(
     if READS <= read {
         return refused(Refusal::BadCall);
     }
-    read_number(linklog::turn(read_in(read), blocks, number, block, room))
+    as_number(linklog::turn(read_in(read), blocks, number, block, room))
 }
 
 // Takes a log back to the end of the last whole record that was read.
@@ -178,5 +180,5 @@ pub extern "C" fn dvc_log_take_back(read: u64, room: &mut [u8]) -> i64
         return refused(Refusal::BadCall);
     }
     let reader = read_in(read);
-    log_number(linklog::take_back(reader.end, room))
+    as_number(linklog::take_back(reader.end, room))
 }

@@ -17,7 +17,6 @@ use Rattle.paper.specs.declared.Refusal.TheVariants.{BadCall, LogFull}
 use Rattle.blocks.specs.Block.{BLOCK, HEAD, PAYLOAD, NONE, block_of, used_in, payload_in}
 use Rattle.blocks.proofs.Blocks.{length_block, used_back}
 use Rattle.linklog.specs.declared.Log.{Log}
-use Rattle.linklog.specs.declared.Appended.TheVariants.{Put, Refused}
 use Rattle.linklog.specs.Records.{Entry, record_of}
 use Rattle.linklog.specs.Written.{blocks_for}
 use Rattle.linklog.specs.Reading.{BLOCKS_MAX}
@@ -30,6 +29,7 @@ use Rattle.linklog.proofs.Lending.{lent_size, lent_last, not_lent}
 use Rattle.logging.specs.declared.Course.{Course}
 use Rattle.logging.specs.Writing.{is_even, full_blocks, full_text, Run, run_of, answered, appended_to, is_over, run_after}
 use Rattle.logging.proofs.Steps.{stays, goes}
+use Rattle.std.specs.Prelude.{Ok, Err}
 
 -- ---- a chain of blocks
 
@@ -147,7 +147,7 @@ module _ (number place : ℕ) (payload room : List ℕ) where
         go zero e = absurd (omega (arith, e, some))
         go (suc m) e = omega (arith, odd_used now then is, full_le (n - 1) full, used_then m e)
 
-    fills_put : (run : Run) → run.text ≡ [] → Fills (answered run (Put now) then) (length payload)
+    fills_put : (run : Run) → run.text ≡ [] → Fills (answered run (Ok now) then) (length payload)
     unfolding answered
     fills_put run none = rw none (go (is_even now then) refl)
       where
@@ -157,7 +157,7 @@ module _ (number place : ℕ) (payload room : List ℕ) where
 
 -- a refusal leaves the room
 fills_refused : (course : Course) (room : List ℕ) (why : Refusal) (n : ℕ)
-    → Fills (answered (run_of course room []) (Refused why) room) (so_far course.log room + n)
+    → Fills (answered (run_of course room []) (Err why) room) (so_far course.log room + n)
 unfolding answered
 fills_refused course room why n = omega arith
 
@@ -208,7 +208,7 @@ module _ (course : Course) (room : List ℕ) (entry : Entry) where
   fills_lent lent = rw lent (go (ltb BLOCKS_MAX (first + blocks_for (length payload))))
     where
       go : (many : Bool)
-          → Fills (answered run (cond many (Refused LogFull) (Put (now first place payload room)))
+          → Fills (answered run (cond many (Err LogFull) (Ok (now first place payload room)))
           (cond many room (then first place payload room))) (length payload)
       go true = rw size (fills_refused course room LogFull (length bytes))
       go false = fills_put first place payload room (rw size (omega (arith, (entry_record entry).some))) (put_fits lent) run refl

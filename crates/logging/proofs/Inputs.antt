@@ -63,10 +63,6 @@ announced_is input = refl
 -- ---- the record at the front, test by test
 
 module _ (input : List ℕ) where
-  pub none_yet : length input < LENGTH → 0 ≡ input_whole input
-  unfolding input_whole whole_by needs_of
-  none_yet h = rw (lt-ltb (length input) LENGTH h, lt-ltb (length input) LENGTH h) refl
-
   module _ (long : LENGTH ≤ length input) (v : ℕ) (e : v ≡ announced input) where
     pub close_cut : v ≡ CLOSE → length input < CLOSE_SIZE → 0 ≡ input_whole input
     unfolding input_whole whole_by needs_of

@@ -10,19 +10,19 @@ use Rattle.lists.proofs.Cases.{both}
 use Rattle.paper.specs.declared.Refusal.TheVariants.{NotBlocks}
 use Rattle.blocks.specs.Block.{BLOCK}
 use Rattle.linklog.specs.Reading.{BLOCKS_MAX, is_log}
-use Rattle.logging.specs.declared.Judged.{Judged}
-use Rattle.logging.specs.declared.Judged.TheVariants.{Blocks, NoLog}
+use Rattle.std.specs.Prelude.{Result, Ok, Err}
+use Rattle.paper.specs.declared.Refusal.{Refusal}
 use Rattle.logging.specs.Reading.{judged_by}
 
 -- the blocks that are told
-abbrev told : Judged → ℕ
-told (Blocks n) = n
-told (NoLog why) = 0
+abbrev told : Result ℕ Refusal → ℕ
+told (Ok n) = n
+told (Err why) = 0
 
-pub judged_few : (size n : ℕ) → Blocks n ≡ judged_by size → n ≤ BLOCKS_MAX
+pub judged_few : (size n : ℕ) → Ok n ≡ judged_by size → n ≤ BLOCKS_MAX
 unfolding judged_by is_log
 judged_few size n e = go (eqb (size % BLOCK) 0 && leb (size / BLOCK) BLOCKS_MAX) refl (ap told e)
   where
-    go : (b : Bool) → (eqb (size % BLOCK) 0 && leb (size / BLOCK) BLOCKS_MAX) ≡ b → n ≡ told (cond b (Blocks (size / BLOCK)) (NoLog NotBlocks)) → n ≤ BLOCKS_MAX
+    go : (b : Bool) → (eqb (size % BLOCK) 0 && leb (size / BLOCK) BLOCKS_MAX) ≡ b → n ≡ told (cond b (Ok (size / BLOCK)) (Err NotBlocks)) → n ≤ BLOCKS_MAX
     go true is f = omega (arith, f, leb-true (size / BLOCK) BLOCKS_MAX (both (eqb (size % BLOCK) 0) (leb (size / BLOCK) BLOCKS_MAX) is).1)
     go false not f = omega (arith, f)

@@ -20,9 +20,9 @@ use Rattle.linklog.specs.Reading.{Course, Seeking, Gave, nothing, entered, taken
 use Rattle.linklog.specs.Appending.{ROOM}
 use Rattle.linklog.specs.Turns.{at_first, is_reader, is_last_of, is_within, course_in, brought_by, gave_to, reader_with, turned_to, room_after}
 use Rattle.linklog.proofs.Readers.{reader_rests, reader_says, bad_turn, good_turn}
-use Rattle.logging.specs.declared.Judged.TheVariants.{Blocks, NoLog}
+use Rattle.std.specs.Prelude.{Ok, Err}
 use Rattle.logging.specs.Lines.{entry_line, lines_of}
-use Rattle.logging.specs.Reading.{report, judged_by, text_of, told_with, told_by, told_from, printed_by}
+use Rattle.logging.specs.Reading.{report, judged_by, text_of, told_with, told_by, reader_then, told_from, printed_by}
 use Rattle.logging.proofs.Turns.{CanBe, course_from, size_brought, behind_short, entered_stands, entered_within}
 use Rattle.logging.proofs.Telling.{gave_good, gave_bad, few, brought_few}
 
@@ -114,7 +114,7 @@ module _ (reader : Reader) (blocks number : ℕ) (block room : List ℕ) (is : i
       go true good = rw (gave_good reader blocks number block room is good) (goes_good good)
       go false bad = rw (gave_bad reader blocks number block room is bad) (goes_bad bad)
 
-  next_is : (told_by reader blocks number block room).reader ≡ next
+  next_is : reader_then reader (told_by reader blocks number block room) ≡ next
   unfolding told_by turned_to told_with
   next_is = rw is refl
 
@@ -154,14 +154,14 @@ seeks : (room : List ℕ) → course_in at_first room ≡ Seeking
 unfolding course_in
 seeks room = refl
 
-told : (file room : List ℕ) → ROOM ≤ length room → printed_by (Blocks (length file / BLOCK)) file room ≡ lines_of (entries_read file)
+told : (file room : List ℕ) → ROOM ≤ length room → printed_by (Ok (length file / BLOCK)) file room ≡ lines_of (entries_read file)
 unfolding printed_by entries_read records_read
 told file room fits =
     let n = length file / BLOCK in
     let all : 0 + n ≡ n = omega arith in
     rw all at (goes n 0 at_first file room Seeking (at_first_law room fits) (seeks room) tt)
 
-refused : (file room : List ℕ) → printed_by (NoLog NotBlocks) file room ≡ refused_line (refusal_number NotBlocks)
+refused : (file room : List ℕ) → printed_by (Err NotBlocks) file room ≡ refused_line (refusal_number NotBlocks)
 unfolding printed_by
 refused file room = refl
 
@@ -171,7 +171,7 @@ unfolding judged_by report
 prints file room fits = go (is_log (length file))
   where
     go : (b : Bool)
-        → printed_by (cond b (Blocks (length file / BLOCK)) (NoLog NotBlocks)) file room
+        → printed_by (cond b (Ok (length file / BLOCK)) (Err NotBlocks)) file room
         ≡ cond b (lines_of (entries_read file)) (refused_line (refusal_number NotBlocks))
     go true = told file room fits
     go false = refused file room

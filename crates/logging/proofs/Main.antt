@@ -7,8 +7,8 @@ use Prim.Native.Nat.{ℕ, ◌≤◌, ◌<◌}
 use native.Mathlib.Omega.{arith}
 use lib.Dec.{ltb}
 use lib.ListN.{length, take}
+use Rattle.std.specs.Prelude.{None, Some}
 use Rattle.paper.specs.declared.Refusal.TheVariants.{LogFull}
-use Rattle.paper.specs.Refusals.{refusal_number}
 use Rattle.lists.specs.Bytes.{zeros}
 use Rattle.lists.specs.Places.{place}
 use Rattle.numbers.specs.Numbers.{Bytes, little, bytes_of, value_of, value_at}
@@ -60,7 +60,7 @@ stands_so reads room =
 
 -- It ends with 21 exactly if they don't all fit,
 pub refused_when : (reads : List (List ℕ)) (room : List ℕ) → ROOM ≤ length room
-    → (after room reads).kept.course.why ≡ cond (ltb BLOCKS_MAX (blocks_of (entries_in (all_of reads)))) (refusal_number LogFull) 0
+    → (after room reads).kept.course.why ≡ cond (ltb BLOCKS_MAX (blocks_of (entries_in (all_of reads)))) (Some LogFull) None
 refused_when reads room fits =
     ap (λ (at : Stood Run). at.kept.course.why) (stands_so reads room) ∙ sends.why_at_once (entries_in (all_of reads)) room fits
 

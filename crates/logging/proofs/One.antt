@@ -33,4 +33,4 @@ judge_one κs a r r' s s' p q = same p q
 -- the room is the fifth parameter, the output the sixth
 pub tell_one : (κs : _) (a : _) (r r' : _) (s s' : _) → tell.Post κs a r s → tell.Post κs a r' s'
     → (r ≡ r') × ((s.1.1.1.1.0.now ≡ s'.1.1.1.1.0.now) × (s.1.1.1.1.1.0.now ≡ s'.1.1.1.1.1.0.now))
-tell_one κs a r r' s s' p q = (same p.0.0 q.0.0, (same p.1.0 q.1.0, same p.1.1 q.1.1))
+tell_one κs a r r' s s' p q = (same p.0 q.0, (same p.1.1.0 q.1.1.0, same p.1.1.1 q.1.1.1))

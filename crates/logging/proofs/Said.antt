@@ -1,16 +1,16 @@
 -- The lines of a log's records, laid one behind the other.
 -- Assumes nothing.
-use mathlib.Core.Path.{◌≡◌, refl, sym, ap, ◌∙◌}
+use mathlib.Core.Path.{◌≡◌, refl, sym, ◌∙◌}
 use mathlib.Core.List.{List, [], ◌∷◌, ◌++◌, append_assoc, append-nil}
 use mathlib.Core.Logic.{⊎_elim}
 use Prim.Native.Nat.{ℕ, ◌+◌, ◌*◌, ◌≤◌, ◌<◌}
 use native.Mathlib.Omega.{arith}
 use lib.ListN.{length, take, drop}
-use Rattle.lists.specs.Bytes.{laid}
 use Rattle.lists.proofs.Cases.{lt_or_le}
-use Rattle.lists.proofs.Laid.{laid_next}
+use Rattle.lines.specs.declared.Pen.{Pen}
 use Rattle.lines.specs.Hex.{bytes_field}
-use Rattle.lines.proofs.Ends.{ends}
+use Rattle.lines.specs.Pen.{Writes}
+use Rattle.lines.proofs.Pens.{then, at_most, nothing}
 use Rattle.lines.proofs.Spelling.{length_hex, field_none, field_some}
 use Rattle.records.specs.Walks.{front_of}
 use Rattle.records.specs.Items.{items_in, after_items}
@@ -40,41 +40,33 @@ all_lines text [] = sym (append-nil text)
 all_lines text (entry ∷ entries) =
     all_lines (text ++ entry_line entry) entries ∙ append_assoc text (entry_line entry) (lines_of entries)
 
--- a walk that has taken `at` bytes and laid `used` bytes of text
-pub record Left (input out₀ out : List ℕ) (at used : ℕ) : Type 0 where
+-- a walk that has taken `at` bytes, and whose pen has gone on since it began
+pub record Left (input : List ℕ) (start pen : Pen) (at : ℕ) : Type 0 where
   -- the lines laid so far
   pub text : List ℕ
   pub leads : items.Left log_framing entry_in line_after [] input text at
-  pub so_far : out ≡ laid out₀ 0 text
-  pub used_is : used ≡ length text
-  pub room : used ≤ TEXT_PER_BYTE * at
+  pub writes : Writes start pen text (TEXT_PER_BYTE * at)
 
 -- it begins with nothing taken and nothing laid
-pub begins : (input out : List ℕ) → Left input out out 0 0
-unfolding laid
-begins input out = record { text = []; leads = (omega arith, (refl, omega arith)); so_far = refl; used_is = refl; room = omega arith }
+pub begins : (input : List ℕ) (pen : Pen) → Left input pen pen 0
+begins input pen = record { text = []; leads = (omega arith, (refl, omega arith)); writes = nothing pen }
 
-module _ (input out₀ out : List ℕ) (at used : ℕ) (left : Left input out₀ out at used) where
+module _ (input : List ℕ) (start pen : Pen) (at : ℕ) (left : Left input start pen at) where
   -- the record in front is taken, and its line is laid behind the others
-  pub goes_on_law : (out' : List ℕ) (n k : ℕ) → n ≡ logged_whole (drop at input) → 0 < n → at + n ≤ length input
-      → k ≡ length (entry_line (entry_in (take n (drop at input)))) → k ≤ TEXT_PER_BYTE * n
-      → out' ≡ laid out used (entry_line (entry_in (take n (drop at input)))) → Left input out₀ out' (at + n) (used + k)
+  pub goes_on_law : (pen' : Pen) (n : ℕ) → n ≡ logged_whole (drop at input) → 0 < n → at + n ≤ length input
+      → Writes pen pen' (entry_line (entry_in (take n (drop at input)))) (TEXT_PER_BYTE * n) → Left input start pen' (at + n)
   unfolding front_of
-  goes_on_law out' n k e some there f h g =
-      let line = entry_line (entry_in (take n (drop at input))) in
+  goes_on_law pen' n e some there w =
       record {
-        text = left.text ++ line;
+        text = left.text ++ entry_line (entry_in (take n (drop at input)));
         leads = rw (← e) at (items.goes_on_law log_framing entry_in line_after [] input left.text at n left.leads e some there);
-        so_far = laid_next out₀ out out' left.text line used left.used_is left.so_far g;
-        used_is = ends left.text line left.used_is f;
-        room = omega (arith, left.room, h);
+        writes = at_most _ (then left.writes w) (omega arith);
       }
 
   -- it ends where no whole record stands
-  pub ends_so : logged_whole (drop at input) ≡ 0
-      → ((used ≡ length (said_of input)) × (used ≤ TEXT_PER_BYTE * length input)) × (out ≡ laid out₀ 0 (said_of input))
+  pub ends_so : logged_whole (drop at input) ≡ 0 → Writes start pen (said_of input) (TEXT_PER_BYTE * length input)
   unfolding said_of
   ends_so none =
       let end = items.ends log_framing entry_in line_after [] input left.text at left.leads none in
       let text = end.0 ∙ all_lines [] (items_in logged_whole entry_in input) in
-      ((left.used_is ∙ ap length text, omega (arith, left.room, end.1.1)), left.so_far ∙ ap (laid out₀ 0) text)
+      rw text at (at_most (TEXT_PER_BYTE * length input) left.writes (omega (arith, end.1.1)))

@@ -12,13 +12,10 @@ use lib.ListN.{length, take, drop, length-append, length-drop, take-append-drop}
 use lib.Seq.{length-take-le, take_all, take-nil, take-take}
 use Rattle.lists.proofs.Cases.{choice, lt_or_le, true_not_false}
 use Rattle.paper.specs.declared.Refusal.TheVariants.{LogFull}
-use Rattle.paper.specs.Refusals.{refusal_number}
 use Rattle.records.specs.Walks.{size_of}
 use Rattle.records.specs.Items.{after_items}
 use Rattle.blocks.specs.Block.{BLOCK, PAYLOAD}
 use Rattle.linklog.specs.declared.Log.{Log}
-use Rattle.linklog.specs.declared.Appended.{Appended}
-use Rattle.linklog.specs.declared.Appended.TheVariants.{Put, Refused}
 use Rattle.linklog.specs.Records.{Entry, record_of}
 use Rattle.linklog.specs.Written.{marked_all, marked, blocks_from, blocks_for, written}
 use Rattle.linklog.specs.Reading.{BLOCKS_MAX}
@@ -32,6 +29,8 @@ use Rattle.logging.specs.declared.Course.{Course}
 use Rattle.logging.specs.Writing.{is_even, full_blocks, full_text, last_text, run_of, is_over, run_after, empty_log, start_course, end_text}
 use Rattle.logging.proofs.Steps.{is_put, is_refused_law, goes}
 use Rattle.logging.proofs.Pieces.{from, first, over_stays, all_for}
+use Rattle.std.specs.Prelude.{Option, None, Some, Result, Ok, Err}
+use Rattle.paper.specs.declared.Refusal.{Refusal}
 
 -- ---- how much entries fill
 
@@ -125,9 +124,9 @@ module _ (es : List Entry) (log : Log) (room : List ℕ) (holds : Holds (log_of 
 -- ---- one more
 
 -- what an answer's blocks are: those before the first that is touched have gone out
-abbrev PutsFrom : ℕ → Appended → Type 0
-PutsFrom first (Put now) = now.blocks ≡ first + now.held
-PutsFrom first (Refused why) = Unit {0}
+abbrev PutsFrom : ℕ → Result Log Refusal → Type 0
+PutsFrom first (Ok now) = now.blocks ≡ first + now.held
+PutsFrom first (Err why) = Unit {0}
 
 puts_from : (log : Log) (room bytes : List ℕ) → PutsFrom (gone log room) (answer_for log room bytes)
 unfolding answer_for filled_to
@@ -154,7 +153,7 @@ module _ (es : List Entry) (e : Entry) (log : Log) (room : List ℕ) (holds : Ho
   abbrev then : List ℕ
   then = room_then log room (record_of e)
 
-  abbrev put : answer_for log room (record_of e) ≡ Put now
+  abbrev put : answer_for log room (record_of e) ≡ Ok now
   put = (puts es e log room holds few).0
 
   abbrev holds_then : Holds (log_of (es ++ (e ∷ []))) now then
@@ -191,7 +190,7 @@ module _ (es : List Entry) (e : Entry) (log : Log) (room : List ℕ) (holds : Ho
 -- ---- all of them
 
 abbrev going : Log → Course
-going log = record { log = log; why = 0 }
+going log = record { log = log; why = None }
 
 on : (log : Log) → is_over (going log) ≡ false
 unfolding is_over
@@ -209,14 +208,14 @@ module _ (es : List Entry) (e : Entry) (log : Log) (room : List ℕ) (holds : Ho
 
   -- one that doesn't
   step_full : blocks_of es ≤ BLOCKS_MAX → BLOCKS_MAX < blocks_of (es ++ (e ∷ []))
-      → run_after (run_of (going log) room []) e ≡ run_of (record { log = log; why = refusal_number LogFull }) room []
+      → run_after (run_of (going log) room []) e ≡ run_of (record { log = log; why = Some LogFull }) room []
   step_full few many =
       let run = run_of (going log) room [] in
       let is = full es e log room holds few many in
       goes run e (on log) ∙ is_refused_law run e room (sym is.1) LogFull (sym is.0)
 
 -- a refusal ends it
-ended : (log : Log) → is_over (record { log = log; why = refusal_number LogFull }) ≡ true
+ended : (log : Log) → is_over (record { log = log; why = Some LogFull }) ≡ true
 unfolding is_over
 ended log = refl
 
@@ -226,7 +225,7 @@ module _ (es : List Entry) (e : Entry) (es' : List Entry) (log : Log) (room : Li
       rw (
         first (going log) room e es',
         step_full es e log room holds few many,
-        over_stays es' (record { log = log; why = refusal_number LogFull }) room (ended log),
+        over_stays es' (record { log = log; why = Some LogFull }) room (ended log),
       ) refl
 
   all_fits : (fits : blocks_of (es ++ (e ∷ [])) ≤ BLOCKS_MAX)
@@ -311,8 +310,8 @@ blocks_more es e =
     ap size_of (map-append record_of es e) ∙ size_both (map record_of es) (map record_of e) in
     omega (arith, all, length_all (map record_of es), length_all (map record_of (es ++ e)))
 
-abbrev why_for : List Entry → ℕ
-why_for es = cond (ltb BLOCKS_MAX (blocks_of es)) (refusal_number LogFull) 0
+abbrev why_for : List Entry → Option Refusal
+why_for es = cond (ltb BLOCKS_MAX (blocks_of es)) (Some LogFull) None
 
 why_go : (es' es : List Entry) (log : Log) (room : List ℕ) → Holds (log_of es) log room → blocks_of es ≤ BLOCKS_MAX
     → (from (going log) room es').course.why ≡ why_for (es ++ es')
@@ -326,7 +325,7 @@ why_go (e ∷ es') es log room holds few =
     rw (
       first (going log) room e es',
       step_full es e log room holds few many,
-      over_stays es' (record { log = log; why = refusal_number LogFull }) room (ended log),
+      over_stays es' (record { log = log; why = Some LogFull }) room (ended log),
       lt-ltb BLOCKS_MAX (blocks_of (es ++ (e ∷ es'))) more,
     ) refl)
     (λ (fits : blocks_of (es ++ (e ∷ [])) ≤ BLOCKS_MAX).
@@ -338,5 +337,5 @@ why_go (e ∷ es') es log room holds few =
 
 -- 21 comes exactly where the entries don't fit in 65,536 blocks
 pub why_at_once : (entries : List Entry) (room : List ℕ) → ROOM ≤ length room
-    → (from start_course room entries).course.why ≡ cond (ltb BLOCKS_MAX (blocks_of entries)) (refusal_number LogFull) 0
+    → (from start_course room entries).course.why ≡ cond (ltb BLOCKS_MAX (blocks_of entries)) (Some LogFull) None
 why_at_once entries room fits = why_go entries [] empty_log room (rw none_written (holds_empty room fits)) none_blocks

@@ -1,32 +1,28 @@
 -- One record on the way: what goes out stands behind what has gone out.
 -- Assumes nothing.
 use mathlib.Core.Path.{◌≡◌, refl, sym, ap}
-use mathlib.Core.Bool.{Bool, true, false, not}
-use mathlib.Core.List.{List, [], ◌++◌, append-nil}
+use mathlib.Core.Bool.{true, false}
 use Prim.Native.Nat.{ℕ}
-use borrow.Author.Tests.{eqb-true}
-use lib.Dec.{eqb}
+use mathlib.Core.List.{List, [], ◌++◌, append-nil}
 use Rattle.lists.proofs.Cases.{true_not_false}
 use Rattle.paper.specs.declared.Refusal.{Refusal}
-use Rattle.paper.specs.Refusals.{refusal_number}
 use Rattle.linklog.specs.declared.Log.{Log}
-use Rattle.linklog.specs.declared.Appended.{Appended}
-use Rattle.linklog.specs.declared.Appended.TheVariants.{Put, Refused}
 use Rattle.linklog.specs.Records.{Entry, record_of}
 use Rattle.linklog.specs.Appending.{answer_for, room_then}
 use Rattle.logging.specs.declared.Course.{Course}
-use Rattle.logging.specs.Writing.{full_text, Run, run_of, answered, appended_to, is_over, run_after}
+use Rattle.logging.specs.Writing.{full_text, Run, run_of, answered, appended_to, is_there, is_over, run_after}
+use Rattle.std.specs.Prelude.{Bool, Option, None, Some, Result, Ok, Err}
 
 -- ---- by the append's answer
 
 module _ (run : Run) (entry : Entry) (room : List ℕ) (e : room ≡ room_then run.course.log run.room (record_of entry)) where
-  pub is_put : (log : Log) → Put log ≡ answer_for run.course.log run.room (record_of entry)
-      → appended_to run entry ≡ run_of (record { log = log; why = 0 }) room (run.text ++ full_text log room)
+  pub is_put : (log : Log) → Ok log ≡ answer_for run.course.log run.room (record_of entry)
+      → appended_to run entry ≡ run_of (record { log = log; why = None }) room (run.text ++ full_text log room)
   unfolding appended_to answered
   is_put log f = rw (← f, ← e) refl
 
-  pub is_refused_law : (why : Refusal) → Refused why ≡ answer_for run.course.log run.room (record_of entry)
-      → appended_to run entry ≡ run_of (record { log = run.course.log; why = refusal_number why }) room run.text
+  pub is_refused_law : (why : Refusal) → Err why ≡ answer_for run.course.log run.room (record_of entry)
+      → appended_to run entry ≡ run_of (record { log = run.course.log; why = Some why }) room run.text
   unfolding appended_to answered
   is_refused_law why f = rw (← f, ← e) refl
 
@@ -41,23 +37,23 @@ unfolding run_after
 goes run entry on = rw on refl
 
 -- a course that goes on has no refusal
-pub no_why : (course : Course) → is_over course ≡ false → course ≡ record { log = course.log; why = 0 }
+pub no_why : (course : Course) → is_over course ≡ false → course ≡ record { log = course.log; why = None }
 unfolding is_over
-no_why course on = ap (λ (why : ℕ). record { log = course.log; why = why }) (eqb-true course.why 0 (held (eqb course.why 0) on))
+no_why course on = ap (λ (why : Option Refusal). record { log = course.log; why = why }) (none course.why on)
   where
-    held : (b : Bool) → not b ≡ false → b ≡ true
-    held true h = refl
-    held false h = absurd (true_not_false h)
+    none : (why : Option Refusal) → is_there why ≡ false → why ≡ None
+    none None h = refl
+    none (Some why) h = absurd (true_not_false h)
 
 -- ---- behind what has gone out
 
-answered_behind : (course : Course) (room text : List ℕ) (answer : Appended) (room' : List ℕ)
+answered_behind : (course : Course) (room text : List ℕ) (answer : Result Log Refusal) (room' : List ℕ)
     → answered (run_of course room text) answer room'
     ≡ run_of (answered (run_of course room []) answer room').course (answered (run_of course room []) answer room').room
     (text ++ (answered (run_of course room []) answer room').text)
 unfolding answered
-answered_behind course room text (Put log) room' = refl
-answered_behind course room text (Refused why) room' = ap (run_of (record { log = course.log; why = refusal_number why }) room') (sym (append-nil text))
+answered_behind course room text (Ok log) room' = refl
+answered_behind course room text (Err why) room' = ap (run_of (record { log = course.log; why = Some why }) room') (sym (append-nil text))
 
 module _ (course : Course) (room text : List ℕ) (entry : Entry) where
   abbrev alone : Run

@@ -11,15 +11,12 @@ use lib.Seq.{take_all, take-nil}
 use Rattle.lists.proofs.Cases.{choice, true_not_false}
 use Rattle.lists.proofs.Laid.{front, length_laid}
 use Rattle.paper.specs.declared.Refusal.{Refusal}
-use Rattle.paper.specs.Refusals.{refusal_number}
 use Rattle.records.specs.Walks.{size_of}
 use Rattle.records.specs.Items.{items_in}
 use Rattle.records.proofs.Framings.{records_none}
 use Rattle.blocks.specs.Block.{PAYLOAD, NONE, used_in, place_in, payload_in, is_good}
 use Rattle.blocks.proofs.Judged.{good_says, uses_le}
 use Rattle.linklog.specs.declared.Reader.{Reader}
-use Rattle.linklog.specs.declared.Turned.{Turned}
-use Rattle.linklog.specs.declared.Turned.TheVariants.{Stands, Refused}
 use Rattle.linklog.specs.Records.{logged_whole, entry_in}
 use Rattle.linklog.specs.Reading.{Seeking, Within, Gave, nothing, entered, taken}
 use Rattle.linklog.specs.Appending.{ROOM}
@@ -28,6 +25,7 @@ use Rattle.linklog.proofs.Readers.{reader_says, no_reader, good_turn}
 use Rattle.logging.specs.Lines.{lines_of, said_of}
 use Rattle.logging.specs.Reading.{text_of, told_with, told_by}
 use Rattle.logging.proofs.Turns.{payload_few, none_whole, gives, size_brought}
+use Rattle.std.specs.Prelude.{Result, Ok, Err}
 
 -- ---- what is brought
 
@@ -44,14 +42,14 @@ seeking_few block few =
 -- ---- what is answered
 
 -- the reader of an answer
-abbrev standing : Turned → Reader
-standing (Stands next) = next
-standing (Refused why) = at_first
+abbrev standing : Result Reader Refusal → Reader
+standing (Ok next) = next
+standing (Err why) = at_first
 
 -- whether there is one
-abbrev stood : Turned → Bool
-stood (Stands next) = true
-stood (Refused why) = false
+abbrev stood : Result Reader Refusal → Bool
+stood (Ok next) = true
+stood (Err why) = false
 
 module _ (reader : Reader) (blocks number : ℕ) (block room : List ℕ) where
   abbrev gave : Gave
@@ -60,27 +58,27 @@ module _ (reader : Reader) (blocks number : ℕ) (block room : List ℕ) where
   abbrev then : List ℕ
   then = room_after reader blocks number block room
 
-  abbrev answer : Turned
+  abbrev answer : Result Reader Refusal
   answer = turned_to reader blocks number block room
 
-  is_reader_law : (next : Reader) → Stands next ≡ answer → is_reader reader room ≡ true
+  is_reader_law : (next : Reader) → Ok next ≡ answer → is_reader reader room ≡ true
   is_reader_law next e = go (is_reader reader room) refl
     where
       go : (b : Bool) → is_reader reader room ≡ b → is_reader reader room ≡ true
       go true is = is
       go false not = absurd (true_not_false (ap stood (e ∙ sym (no_reader reader blocks number block room not).0)))
 
-  not_reader : (why : Refusal) → Refused why ≡ answer → is_reader reader room ≡ false
+  not_reader : (why : Refusal) → Err why ≡ answer → is_reader reader room ≡ false
   unfolding turned_to
   not_reader why e = go (is_reader reader room) refl
     where
       go : (b : Bool) → is_reader reader room ≡ b → is_reader reader room ≡ false
       go true is =
-          let one : answer ≡ Stands (reader_with reader number block gave) = rw is refl in
+          let one : answer ≡ Ok (reader_with reader number block gave) = rw is refl in
           absurd (true_not_false (sym (ap stood (e ∙ one))))
       go false not = not
 
-  next_is : (next : Reader) → is_reader reader room ≡ true → Stands next ≡ answer → next ≡ reader_with reader number block gave
+  next_is : (next : Reader) → is_reader reader room ≡ true → Ok next ≡ answer → next ≡ reader_with reader number block gave
   unfolding turned_to
   next_is next is e = ap standing e ∙ rw is refl
 
@@ -157,7 +155,7 @@ module _ (reader : Reader) (blocks number : ℕ) (block room : List ℕ) where
 
   -- ---- the answer, and what is told
 
-  module _ (next : Reader) (e : Stands next ≡ answer) where
+  module _ (next : Reader) (e : Ok next ≡ answer) where
     abbrev is_one : is_reader reader room ≡ true
     is_one = is_reader_law next e
 
@@ -168,15 +166,15 @@ module _ (reader : Reader) (blocks number : ℕ) (block room : List ℕ) where
     told_text n f = text_is is_one n (rw (next_is next is_one e) at f)
 
     pub told_lines : (n : ℕ) → n ≡ length (text_of reader blocks number block room)
-        → record { reader = next; laid = n; why = 0 } ≡ told_by reader blocks number block room
+        → Ok (record { reader = next; laid = n }) ≡ told_by reader blocks number block room
     unfolding told_by told_with
     told_lines n f = rw (← e, f) refl
 
-  module _ (why : Refusal) (e : Refused why ≡ answer) where
+  module _ (why : Refusal) (e : Err why ≡ answer) where
     pub told_none : text_of reader blocks number block room ≡ []
     unfolding text_of
     told_none = rw (not_reader why e) refl
 
-    pub told_refused : record { reader = reader; laid = 0; why = refusal_number why } ≡ told_by reader blocks number block room
+    pub told_refused : Err why ≡ told_by reader blocks number block room
     unfolding told_by told_with
     told_refused = rw (← e) refl

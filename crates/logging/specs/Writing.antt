@@ -1,12 +1,9 @@
 -- A log on its way to a stream, record by record, and over an input in pieces, as reads give it: a block goes out when it is full, and the
 -- last one, partly filled, at the end.
-use Rattle.std.specs.Prelude.{ℕ, ◌-◌, ◌*◌, Bool, cond, not, List, [], ◌∷◌, ◌++◌, map, eqb, length, take}
-use Rattle.paper.specs.Refusals.{refusal_number}
+use Rattle.std.specs.Prelude.{ℕ, ◌-◌, ◌*◌, Bool, true, false, cond, Option, None, Some, List, [], ◌∷◌, ◌++◌, map, length, take, Result, Ok, Err}
 use Rattle.records.specs.Items.{Stood, stood_by}
 use Rattle.blocks.specs.Block.{BLOCK, PAYLOAD}
 use Rattle.linklog.specs.declared.Log.{Log}
-use Rattle.linklog.specs.declared.Appended.{Appended}
-use Rattle.linklog.specs.declared.Appended.TheVariants.{Put, Refused}
 use Rattle.linklog.specs.Records.{Entry, record_of, entry_in}
 use Rattle.linklog.specs.Written.{written}
 use Rattle.linklog.specs.Reading.{BLOCKS_MAX}
@@ -15,6 +12,7 @@ use Rattle.linklog.specs.Appending.{begun, last_in, answer_for, room_then}
 use Rattle.logging.specs.declared.Course.{Course}
 use Rattle.logging.specs.declared.Stand.{Stand}
 use Rattle.logging.specs.Input.{input_whole, entries_in}
+use Rattle.paper.specs.declared.Refusal.{Refusal}
 
 -- ---- what goes out
 
@@ -45,17 +43,21 @@ abbrev pub run_of : Course → List ℕ → List ℕ → Run
 run_of course room text = record { course = course; room = room; text = text }
 
 -- after an append's answer: the blocks that are full go out, or a refusal ends the log
-unfoldable pub answered : Run → Appended → List ℕ → Run
-answered run (Put log) room = run_of (record { log = log; why = 0 }) room (run.text ++ full_text log room)
-answered run (Refused why) room = run_of (record { log = run.course.log; why = refusal_number why }) room run.text
+unfoldable pub answered : Run → Result Log Refusal → List ℕ → Run
+answered run (Ok log) room = run_of (record { log = log; why = None }) room (run.text ++ full_text log room)
+answered run (Err why) room = run_of (record { log = run.course.log; why = Some why }) room run.text
 
 unfoldable pub appended_to : Run → Entry → Run
 appended_to run entry =
     answered run (answer_for run.course.log run.room (record_of entry)) (room_then run.course.log run.room (record_of entry))
 
 -- behind a refusal nothing is logged
+abbrev pub is_there : Option Refusal → Bool
+is_there None = false
+is_there (Some why) = true
+
 unfoldable pub is_over : Course → Bool
-is_over course = not (eqb course.why 0)
+is_over course = is_there course.why
 
 unfoldable pub run_after : Run → Entry → Run
 run_after run entry = cond (is_over run.course) run (appended_to run entry)
@@ -66,7 +68,7 @@ step_of course room bytes = run_after (run_of course room []) (entry_in bytes)
 
 -- the same where no refusal has ended the log
 abbrev pub put_of : Log → List ℕ → List ℕ → Run
-put_of log room bytes = appended_to (run_of (record { log = log; why = 0 }) room []) (entry_in bytes)
+put_of log room bytes = appended_to (run_of (record { log = log; why = None }) room []) (entry_in bytes)
 
 -- ---- in pieces
 
@@ -75,7 +77,7 @@ abbrev pub empty_log : Log
 empty_log = record { blocks = 0; held = 0 }
 
 abbrev pub start_course : Course
-start_course = record { log = empty_log; why = 0 }
+start_course = record { log = empty_log; why = None }
 
 -- where writing stands after the whole records of what is there: the rest is left
 abbrev pub turned_to : Course → List ℕ → List ℕ → Stood Run

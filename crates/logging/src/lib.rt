@@ -9,15 +9,16 @@
 // anything.
 #![tactic(auto)]
 
-ghost use Rattle.std.specs.Prelude.{◌≡◌, ◌+◌, ◌*◌, ◌≤◌, length, take, drop};
+ghost use Rattle.std.specs.Prelude.{◌≡◌, ◌+◌, ◌*◌, ◌≤◌, length, take, drop, IfOk};
 ghost use Rattle.lists.specs.Bytes.{laid};
 ghost use Rattle.numbers.specs.Numbers.{value_at};
 ghost use Rattle.records.specs.Records.{LENGTH};
 ghost use Rattle.records.specs.Walks.{records_of, size_of, rest_of};
 ghost use Rattle.blocks.specs.Block.{BLOCK, PAYLOAD};
 ghost use Rattle.lines.specs.Decimal.{FIELD_MAX};
+ghost use Rattle.lines.specs.Pen.{Writes};
 ghost use Rattle.linklog.specs.Records.{Received, Closed, entry_in, record_of};
-ghost use Rattle.linklog.specs.Appending.{ROOM, last_at, answer_for, room_then};
+ghost use Rattle.linklog.specs.Appending.{ROOM, last_at, last_in, answer_for, room_then};
 ghost use Rattle.logging.specs.Input.{input_whole};
 ghost use Rattle.logging.specs.Writing.{is_even, full_text, last_text, step_of, put_of, is_over, start_course, turned_to, stand_of};
 ghost use Rattle.logging.specs.Lines.{TEXT_PER_BYTE, SAID_MAX, entry_line, said_of};
@@ -25,9 +26,10 @@ ghost use Rattle.linklog.specs.Turns.{room_after};
 ghost use Rattle.logging.specs.Reading.{judged_by, told_by, text_of};
 
 use blocks::{BLOCK, PAYLOAD};
-use linklog::{Appended, BLOCKS_MAX, Log, ROOM, Reader, Turned};
+use lines::Pen;
+use linklog::{BLOCKS_MAX, Log, ROOM, Reader};
 use paper::Refusal;
-use records::{CLOSE, CLOSE_SIZE, LENGTH};
+use records::{CLOSE, LENGTH};
 
 // The most bytes that a record of the input has: its length, and as many bytes as it can announce.
 pub const INPUT_MAX: usize = LENGTH + 65534;
@@ -37,11 +39,11 @@ const TEXT_PER_BYTE: usize = 14;
 
 pub const SAID_MAX: usize = TEXT_PER_BYTE * ROOM;
 
-// How a log stands after the records so far: the log, and the number of the refusal that ended it, or 0.
+// How a log stands after the records so far: the log, and the refusal that ended it, if one did.
 #[derive(Clone, Copy)]
 pub struct Course {
     pub log: Log,
-    pub why: u8,
+    pub why: Option<Refusal>,
 }
 
 // Where writing stands between two reads: the course, how many bytes were left, and how many bytes of full blocks the last turn laid.
@@ -52,22 +54,11 @@ pub struct Stand {
     pub laid: usize,
 }
 
-// What a file is by its size.
-#[derive(Clone, Copy)]
-pub enum Judged {
-    // A log of so many blocks.
-    Blocks(u32),
-    // 22.
-    NoLog(Refusal),
-}
-
-// What a block gives: where the reader stands, how many bytes its records' lines have, and a refusal's number, or 0. A reader that `log`
-// gave for this room is never refused.
+// What a block gives: where the reader stands, and how many bytes its records' lines have.
 #[derive(Clone, Copy)]
 pub struct Told {
     pub reader: Reader,
     pub laid: usize,
-    pub why: u8,
 }
 
 // What one record gives: the course, and how many bytes of full blocks it laid.
@@ -85,35 +76,14 @@ struct Walked {
     laid: usize,
 }
 
-// How many bytes the record at the front has, or 0 where no whole record stands there.
-fn whole(input: &[u8]) -> usize
-    ensures { result ≡ input_whole input.now }
-{
-    if input.len() < LENGTH {
-        return 0;
-    }
-    let announced = numbers::short_at(input, 0);
-    if announced as u32 == CLOSE {
-        if input.len() < CLOSE_SIZE {
-            return 0;
-        }
-        return CLOSE_SIZE;
-    }
-    let size = LENGTH + announced as usize;
-    if input.len() < size {
-        return 0;
-    }
-    size
-}
-
 // Appends what a record of the input says.
-fn append(log: Log, room: &mut [u8], bytes: &[u8]) -> Appended
+fn append(log: Log, room: &mut [u8], bytes: &[u8]) -> Result<Log, Refusal>
     requires { LENGTH ≤ length bytes.now }
     ensures value { result ≡ answer_for log room.old (record_of (entry_in bytes.now)) }
     ensures room_after { room.new ≡ room_then log room.old (record_of (entry_in bytes.now)) }
 {
     let announced = numbers::short_at(bytes, 0);
-    if announced as u32 == CLOSE {
+    if u32::from(announced) == CLOSE {
         let number = numbers::number(&bytes[LENGTH..]);
         return linklog::close(log, room, number);
     }
@@ -130,6 +100,16 @@ fn last_at(log: Log) -> usize
     BLOCK * (log.held as usize - 1)
 }
 
+// The log's last block, as far as the room has it.
+fn last_block(log: Log, room: &[u8]) -> &[u8]
+    ensures { (result.now ≡ last_in log room.now) × (length result.now ≤ BLOCK) }
+{
+    let at = last_at(log);
+    let start = at.min(room.len());
+    let end = (at + BLOCK).min(room.len());
+    &room[start..end]
+}
+
 // Whether the log has no last block, or a full one.
 fn is_even(log: Log, room: &[u8]) -> bool
     ensures { result ≡ is_even log room.now }
@@ -137,10 +117,7 @@ fn is_even(log: Log, room: &[u8]) -> bool
     if log.blocks == 0 {
         return true;
     }
-    let at = last_at(log);
-    let start = lists::lesser(at, room.len());
-    let end = lists::lesser(at + BLOCK, room.len());
-    blocks::used(&room[start..end]) as usize == PAYLOAD
+    usize::from(blocks::used(last_block(log, room))) == PAYLOAD
 }
 
 // How many bytes at the room's front are full blocks.
@@ -149,9 +126,9 @@ fn full(log: Log, room: &[u8]) -> usize
         × (take result room.now ≡ full_text log room.now)) }
 {
     if is_even(log, room) {
-        return lists::lesser(BLOCK * log.held as usize, room.len());
+        return (BLOCK * log.held as usize).min(room.len());
     }
-    lists::lesser(last_at(log), room.len())
+    last_at(log).min(room.len())
 }
 
 // Appends a record, and lays the blocks that became full from a place on.
@@ -163,18 +140,21 @@ fn put(log: Log, bytes: &[u8], room: &mut [u8], out: &mut [u8], at: usize) -> St
     ensures out_after { out.new ≡ laid out.old at (put_of log room.old bytes.now).text }
 {
     match append(log, room, bytes) {
-        Appended::Put(next) => {
+        Ok(next) => {
             let n = full(next, room);
             lists::copy_at(out, at, &room[..n]);
             Stepped {
-                course: Course { log: next, why: 0 },
+                course: Course {
+                    log: next,
+                    why: None,
+                },
                 laid: n,
             }
         }
-        Appended::Refused(why) => Stepped {
+        Err(why) => Stepped {
             course: Course {
                 log,
-                why: paper::refusal_number(why),
+                why: Some(why),
             },
             laid: 0,
         },
@@ -208,11 +188,8 @@ fn walk(course: Course, input: &[u8], room: &mut [u8], out: &mut [u8]) -> Walked
     let mut next = course;
     let mut at = 0;
     let mut used = 0;
-    while at < input.len() {
-        let n = whole(&input[at..]);
-        if n == 0 {
-            break;
-        }
+    // Records have varying sizes.
+    while let Some(n) = linklog::framed(&input[at..]) {
         let end = at + n;
         let stepped = step(next, &input[at..end], room, out, used);
         next = stepped.course;
@@ -233,7 +210,7 @@ pub fn begin() -> Stand
     Stand {
         course: Course {
             log: Log { blocks: 0, held: 0 },
-            why: 0,
+            why: None,
         },
         had: 0,
         laid: 0,
@@ -241,20 +218,11 @@ pub fn begin() -> Stand
 }
 
 // Whether a refusal has ended the log.
+#[tactic(auto, unfolding(crate::specs::Writing::is_over))]
 pub fn is_over(course: Course) -> bool
     ensures { result ≡ is_over course }
 {
-    course.why != 0
-}
-
-// Brings what stands from a place on to the front. Where that is the front nothing moves, however much there is.
-fn bring(bytes: &mut [u8], from: usize)
-    ensures { bytes.new ≡ laid bytes.old 0 (drop from bytes.old) }
-{
-    if from == 0 {
-        return;
-    }
-    lists::to_front(bytes, from);
+    course.why.is_some()
 }
 
 // Logs the whole records of the input that is there, what was left and behind it what was read, and lays the blocks that became full at
@@ -268,7 +236,7 @@ pub fn take(course: Course, input: &mut [u8], room: &mut [u8], out: &mut [u8]) -
 {
     let walked = walk(course, input, room, out);
     let taken = walked.taken;
-    bring(input, taken);
+    lists::to_front(input, taken);
     let course = walked.course;
     Stand {
         course,
@@ -285,46 +253,41 @@ pub fn finish(log: Log, room: &[u8], out: &mut [u8]) -> usize
     if is_even(log, room) {
         return 0;
     }
-    let at = last_at(log);
-    let start = lists::lesser(at, room.len());
-    let end = lists::lesser(at + BLOCK, room.len());
-    lines::text(out, 0, &room[start..end])
+    lines::text(out, 0, last_block(log, room))
 }
 
-// The line of a local close, from a place on.
-fn close_line(bytes: &[u8], out: &mut [u8], at: usize) -> usize
-    requires { (LENGTH ≤ length bytes.now) × (at ≤ SAID_MAX) }
-    ensures value { (result ≡ length (entry_line (Closed (value_at bytes.now LENGTH 4)))) × (result ≤ 6 + FIELD_MAX) }
-    ensures out_after { out.new ≡ laid out.old at (entry_line (Closed (value_at bytes.now LENGTH 4))) }
+// The line of a local close.
+fn close_line(pen: &mut Pen, bytes: &[u8])
+    requires { (LENGTH ≤ length bytes.now) × (pen.old.at ≤ SAID_MAX) }
+    ensures { Writes pen.old pen.new (entry_line (Closed (value_at bytes.now LENGTH 4))) (6 + FIELD_MAX) }
 {
     let number = numbers::number(&bytes[LENGTH..]);
-    let worded = lines::text(out, at, b"close ");
-    worded + lines::field(out, at + worded, number as u64, b'\n')
+    pen.text(b"close ");
+    pen.field(u64::from(number), b'\n');
 }
 
-// The line of a PDU, from a place on.
-fn pdu_line(pdu: &[u8], out: &mut [u8], at: usize) -> usize
-    requires { (length pdu.now ≤ ROOM) × (at ≤ SAID_MAX) }
-    ensures value { (result ≡ length (entry_line (Received pdu.now))) × (result ≤ 4 + FIELD_MAX + 2 * length pdu.now + 2) }
-    ensures out_after { out.new ≡ laid out.old at (entry_line (Received pdu.now)) }
+// The line of a PDU.
+fn pdu_line(pen: &mut Pen, pdu: &[u8])
+    requires { (length pdu.now ≤ ROOM) × (pen.old.at ≤ SAID_MAX) }
+    ensures { Writes pen.old pen.new (entry_line (Received pdu.now)) (4 + FIELD_MAX + 2 * length pdu.now + 2) }
 {
-    let worded = lines::text(out, at, b"pdu ");
-    let told = worded + lines::field(out, at + worded, pdu.len() as u64, b' ');
-    let spelled = told + lines::bytes_field(out, at + told, pdu);
-    spelled + lines::text(out, at + spelled, b"\n")
+    pen.text(b"pdu ");
+    pen.field(pdu.len() as u64, b' ');
+    pen.bytes(pdu);
+    pen.text(b"\n");
 }
 
-// The line of a record, from a place on.
-fn line(bytes: &[u8], out: &mut [u8], at: usize) -> usize
-    requires { (LENGTH ≤ length bytes.now) × ((length bytes.now ≤ ROOM) × (at ≤ SAID_MAX)) }
-    ensures value { (result ≡ length (entry_line (entry_in bytes.now))) × (result ≤ TEXT_PER_BYTE * length bytes.now) }
-    ensures out_after { out.new ≡ laid out.old at (entry_line (entry_in bytes.now)) }
+// The line of a record.
+fn line(pen: &mut Pen, bytes: &[u8])
+    requires { (LENGTH ≤ length bytes.now) × ((length bytes.now ≤ ROOM) × (pen.old.at ≤ SAID_MAX)) }
+    ensures { Writes pen.old pen.new (entry_line (entry_in bytes.now)) (TEXT_PER_BYTE * length bytes.now) }
 {
     let announced = numbers::short_at(bytes, 0);
-    if announced as u32 == CLOSE {
-        return close_line(bytes, out, at);
+    if u32::from(announced) == CLOSE {
+        close_line(pen, bytes);
+        return;
     }
-    pdu_line(&bytes[LENGTH..], out, at)
+    pdu_line(pen, &bytes[LENGTH..]);
 }
 
 // The lines of the whole records at the front of the bytes, one behind the other.
@@ -333,18 +296,15 @@ fn lines_of(records: &[u8], out: &mut [u8]) -> usize
     ensures value { (result ≡ length (said_of records.now)) × (result ≤ SAID_MAX) }
     ensures out_after { out.new ≡ laid out.old 0 (said_of records.now) }
 {
+    let mut pen = Pen { out, at: 0 };
     let mut at = 0;
-    let mut used = 0;
-    while at < records.len() {
-        let n = linklog::whole(&records[at..]);
-        if n == 0 {
-            break;
-        }
+    // Records have varying sizes.
+    while let Some(n) = linklog::whole(&records[at..]) {
         let end = at + n;
-        used += line(&records[at..end], out, used);
+        line(&mut pen, &records[at..end]);
         at = end;
     }
-    used
+    pen.at
 }
 
 // The lines of the whole records at the front of the bytes, of which a turn gives at most a room's. Answers how many bytes they have.
@@ -352,25 +312,26 @@ fn say(records: &[u8], out: &mut [u8]) -> usize
     ensures value { (result ≡ length (said_of (take ROOM records.now))) × (result ≤ SAID_MAX) }
     ensures out_after { out.new ≡ laid out.old 0 (said_of (take ROOM records.now)) }
 {
-    let n = lists::lesser(ROOM, records.len());
+    let n = records.len().min(ROOM);
     lines_of(&records[..n], out)
 }
 
-// What a file is by its size: a log of so many blocks, or none.
-pub fn judge(size: u64) -> Judged
+// How many blocks a log of such a size has.
+pub fn judge(size: u64) -> Result<u32, Refusal>
     ensures { result ≡ judged_by size }
 {
     if size % (BLOCK as u64) != 0 {
-        return Judged::NoLog(Refusal::NotBlocks);
+        return Err(Refusal::NotBlocks);
     }
     let blocks = size / (BLOCK as u64);
     if (BLOCKS_MAX as u64) < blocks {
-        return Judged::NoLog(Refusal::NotBlocks);
+        return Err(Refusal::NotBlocks);
     }
-    Judged::Blocks(blocks as u32)
+    Ok(blocks as u32)
 }
 
-// The lines of the records that a block gives to a reader, at the front of the output. The reader's room is lent from block to block.
+// The lines of the records that a block gives to a reader, at the front of the output. The reader's room is lent from block to block, and
+// a reader that `tell` gave for this room is never refused.
 pub fn tell(
     reader: Reader,
     blocks: u32,
@@ -378,25 +339,14 @@ pub fn tell(
     block: &[u8],
     room: &mut [u8],
     out: &mut [u8],
-) -> Told
-    ensures value { (result ≡ told_by reader blocks number block.now room.old) × (result.laid ≤ SAID_MAX) }
+) -> Result<Told, Refusal>
+    ensures value { result ≡ told_by reader blocks number block.now room.old }
+    ensures laid { IfOk result (λ told. told.laid ≤ SAID_MAX) }
     ensures room_after { room.new ≡ room_after reader blocks number block.now room.old }
     ensures out_after { out.new ≡ laid out.old 0 (text_of reader blocks number block.now room.old) }
 {
-    match linklog::turn(reader, blocks, number, block, room) {
-        Turned::Stands(next) => {
-            let n = lists::lesser(next.whole + next.behind, room.len());
-            let laid = say(&room[..n], out);
-            Told {
-                reader: next,
-                laid,
-                why: 0,
-            }
-        }
-        Turned::Refused(why) => Told {
-            reader,
-            laid: 0,
-            why: paper::refusal_number(why),
-        },
-    }
+    let next = linklog::turn(reader, blocks, number, block, room)?;
+    let n = (next.whole + next.behind).min(room.len());
+    let laid = say(&room[..n], out);
+    Ok(Told { reader: next, laid })
 }

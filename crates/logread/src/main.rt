@@ -6,29 +6,23 @@
 // printed is the work of `logging`.
 #![tactic(auto)]
 
-ghost use Rattle.std.specs.Prelude.{◌+◌, ◌≤◌, ◌≡◌, length};
-ghost use Rattle.blocks.specs.Block.{BLOCK};
+ghost use Rattle.std.specs.Prelude.{◌≤◌, ◌≡◌, length};
 ghost use Rattle.linklog.specs.Reading.{BLOCKS_MAX};
 ghost use Rattle.logging.specs.Lines.{SAID_MAX};
 
 use blocks::BLOCK;
-use files::{ARGUMENT, Filled};
+use files::{ARGUMENT, Failed};
 use linklog::{ROOM, Reader};
-use logging::{Judged, SAID_MAX};
+use logging::SAID_MAX;
 use std::io::{Read, Seek, SeekFrom};
 use std::rt::Files;
 
-// The bytes of a piece: 64 blocks.
-const PIECE: usize = 64 * BLOCK;
+// The blocks of a piece, and its bytes.
+const PIECE_BLOCKS: u32 = 64;
 
-// Where reading stands behind a piece, and whether it goes on.
-#[derive(Drop)]
-struct Gone {
-    reader: Reader,
-    on: bool,
-}
+const PIECE: usize = PIECE_BLOCKS as usize * BLOCK;
 
-// Prints the lines of a piece's blocks, the first of which has this number.
+// Prints the lines of a piece's blocks, the first of which has this number. Answers where reading stands behind them.
 fn tell(
     rt: &(impl Print + Eprint),
     reader: Reader,
@@ -37,39 +31,24 @@ fn tell(
     piece: &[u8],
     room: &mut [u8],
     out: &mut [u8],
-) -> Gone
-    requires { (first + length piece.now ≤ 4294967295) × (SAID_MAX ≤ length out.old) }
+) -> Result<Reader, Failed>
+    requires { SAID_MAX ≤ length out.old }
     ensures { piece.now ≡ piece.now }
 {
     let mut next = reader;
-    let mut number = first;
-    let mut at = 0;
-    while BLOCK <= piece.len() - at {
-        let end = at + BLOCK;
-        let told = logging::tell(next, blocks, number, &piece[at..end], room, out);
-        if told.why != 0 {
-            let said = lines::refused(out, 0, told.why);
-            files::complain(rt, &out[..said]);
-            return Gone {
-                reader: next,
-                on: false,
-            };
-        }
-        let laid = told.laid;
-        if !files::write(rt, &out[..laid]) {
-            return Gone {
-                reader: next,
-                on: false,
-            };
-        }
+    for (number, block) in (first..blocks).zip(piece.chunks_exact(BLOCK)) {
+        let told = match logging::tell(next, blocks, number, block, room, out) {
+            Ok(told) => told,
+            Err(why) => {
+                let said = lines::refused(out, 0, paper::refusal_number(why));
+                files::complain(rt, &out[..said]);
+                return Err(Failed);
+            }
+        };
+        files::write(rt, &out[..told.laid])?;
         next = told.reader;
-        number += 1;
-        at = end;
     }
-    Gone {
-        reader: next,
-        on: true,
-    }
+    Ok(next)
 }
 
 // Prints the lines of so many blocks, piece by piece.
@@ -78,89 +57,91 @@ fn read<R: Read>(
     file: &mut R,
     name: &[u8],
     blocks: u32,
-    buffer: &mut [u8],
-    room: &mut [u8],
-    out: &mut [u8],
-)
-    requires { (blocks ≤ BLOCKS_MAX) × ((BLOCK ≤ length buffer.old) × (SAID_MAX ≤ length out.old)) }
+) -> Result<(), Failed>
+    requires { blocks ≤ BLOCKS_MAX }
     ensures { name.now ≡ name.now }
 {
+    let mut buffer = [0u8; PIECE];
+    let mut room = [0u8; ROOM];
+    let mut out = [0u8; SAID_MAX];
     let mut reader = linklog::begin();
     let mut number = 0;
+    // Piece by piece, of which the last may be smaller.
     while number < blocks {
-        let count = lists::lesser((blocks - number) as usize, buffer.len() / BLOCK);
-        let size = count * BLOCK;
-        let Filled::To(got) = files::load(rt, file, name, &mut buffer[..size]) else {
-            return;
-        };
+        let count = (blocks - number).min(PIECE_BLOCKS);
+        let size = count as usize * BLOCK;
+        let got = files::load(rt, file, name, &mut buffer[..size])?;
         if got < size {
             files::complain(rt, name);
             files::complain(rt, b": it ends before its size\n");
-            return;
+            return Err(Failed);
         }
-        let gone = tell(rt, reader, blocks, number, &buffer[..size], room, out);
-        if !gone.on {
-            return;
-        }
-        reader = gone.reader;
-        number += count as u32;
+        reader = tell(
+            rt,
+            reader,
+            blocks,
+            number,
+            &buffer[..size],
+            &mut room,
+            &mut out,
+        )?;
+        number += count;
     }
+    Ok(())
 }
 
 // Prints the lines of a file of such a size.
-fn report<R: Read>(rt: &(impl Print + Eprint), file: &mut R, name: &[u8], size: u64)
+fn report<R: Read>(
+    rt: &(impl Print + Eprint),
+    file: &mut R,
+    name: &[u8],
+    size: u64,
+) -> Result<(), Failed>
     ensures { name.now ≡ name.now }
 {
-    let mut out = [0u8; SAID_MAX];
     match logging::judge(size) {
-        Judged::Blocks(blocks) => {
-            let mut buffer = [0u8; PIECE];
-            let mut room = [0u8; ROOM];
-            read(rt, file, name, blocks, &mut buffer, &mut room, &mut out);
-        }
-        Judged::NoLog(why) => {
+        Ok(blocks) => read(rt, file, name, blocks),
+        Err(why) => {
+            let mut out = [0u8; SAID_MAX];
             let said = lines::refused(&mut out, 0, paper::refusal_number(why));
-            files::write(rt, &out[..said]);
+            files::write(rt, &out[..said])
         }
     }
 }
 
 // Asks for the file's size, once a read has told that it can be read, and reports.
-fn measure<R: Read + Seek>(rt: &(impl Print + Eprint), file: &mut R, name: &[u8])
+fn measure<R: Read + Seek>(
+    rt: &(impl Print + Eprint),
+    file: &mut R,
+    name: &[u8],
+) -> Result<(), Failed>
     ensures { name.now ≡ name.now }
 {
     let mut one = [0u8; 1];
-    let Filled::To(got) = files::fill(rt, file, name, &mut one, 0) else {
-        return;
-    };
-    let size = match file.seek(SeekFrom::End(0)) {
-        Ok(size) => size,
-        Err(why) => {
-            files::fail(rt, name, why);
-            return;
-        }
-    };
-    if let Err(why) = file.seek(SeekFrom::Start(0)) {
-        files::fail(rt, name, why);
-        return;
+    let got = files::fill(rt, file, name, &mut one, 0)?;
+    let size = seek(rt, file, name, SeekFrom::End(0))?;
+    seek(rt, file, name, SeekFrom::Start(0))?;
+    if size == 0 && 0 < got {
+        files::complain(rt, name);
+        files::complain(rt, b": it has no size\n");
+        return Err(Failed);
     }
-    if size == 0 {
-        if 0 < got {
-            files::complain(rt, name);
-            files::complain(rt, b": it has no size\n");
-            return;
-        }
-    }
-    report(rt, file, name, size);
+    report(rt, file, name, size)
+}
+
+// Goes to a place of the file, or says on standard error why it can't.
+fn seek<S: Seek>(rt: &impl Eprint, file: &mut S, name: &[u8], to: SeekFrom) -> Result<u64, Failed>
+    ensures { name.now ≡ name.now }
+{
+    file.seek(to).map_err(|why| files::fail(rt, name, why))
 }
 
 // Opens the file, and reports.
-fn run(rt: &(impl Files + Print + Eprint), name: &[u8])
+fn run(rt: &(impl Files + Print + Eprint), name: &[u8]) -> Result<(), Failed>
     ensures { name.now ≡ name.now }
 {
-    if let Some(mut file) = files::open(rt, name) {
-        measure(rt, &mut file, name);
-    }
+    let mut file = files::open(rt, name)?;
+    measure(rt, &mut file, name)
 }
 
 fn main(rt: HostRuntime) {
@@ -169,7 +150,7 @@ fn main(rt: HostRuntime) {
         return;
     }
     let mut name = [0u8; ARGUMENT];
-    if let Some(n) = files::file_name(&rt, 1, b"logread: the file's name", &mut name) {
-        run(&rt, &name[..n]);
+    if let Ok(n) = files::file_name(&rt, 1, b"logread: the file's name", &mut name) {
+        let _ = run(&rt, &name[..n]);
     }
 }

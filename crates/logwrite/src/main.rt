@@ -7,11 +7,10 @@
 // `logging`.
 #![tactic(auto)]
 
-ghost use Rattle.std.specs.Prelude.{◌+◌, ◌*◌, ◌≤◌, ◌<◌, ◌≡◌, length};
-ghost use Rattle.blocks.specs.Block.{BLOCK, PAYLOAD};
+ghost use Rattle.std.specs.Prelude.{◌≡◌};
 
 use blocks::{BLOCK, PAYLOAD};
-use files::Filled;
+use files::Failed;
 use linklog::{BLOCKS_MAX, ROOM};
 use logging::{Course, INPUT_MAX};
 use std::io::Read;
@@ -23,61 +22,43 @@ const OUTPUT: usize = BLOCK * (INPUT_MAX + PAYLOAD) / PAYLOAD;
 const READS: u64 = (BLOCKS_MAX as u64 * PAYLOAD as u64 + 1) * INPUT_MAX as u64;
 
 // Writes the last block, where it is partly filled, and says what is to be said.
-fn finish(rt: &(impl Print + Eprint), course: Course, had: usize, room: &[u8], out: &mut [u8])
-    requires { BLOCK ≤ length out.old }
+fn finish(rt: &(impl Print + Eprint), course: Course, had: usize, room: &[u8]) -> Result<(), Failed>
     ensures { room.now ≡ room.now }
 {
-    let log = course.log;
-    let last = logging::finish(log, room, out);
-    if !files::write(rt, &out[..last]) {
-        return;
-    }
-    if logging::is_over(course) {
-        let said = lines::refused(out, 0, course.why);
+    let mut out = [0u8; BLOCK];
+    let last = logging::finish(course.log, room, &mut out);
+    files::write(rt, &out[..last])?;
+    if let Some(why) = course.why {
+        let said = lines::refused(&mut out, 0, paper::refusal_number(why));
         files::complain(rt, &out[..said]);
-        return;
-    }
-    if 0 < had {
+    } else if 0 < had {
         files::complain(
             rt,
             b"logwrite: the last record is cut short, and is not logged\n",
         );
     }
+    Ok(())
 }
 
 // Logs read by read, until the input ends or a record has no room.
-fn run<R: Read>(
-    rt: &(impl Print + Eprint),
-    reader: &mut R,
-    input: &mut [u8],
-    room: &mut [u8],
-    out: &mut [u8],
-)
-    requires { (BLOCK * (length input.old + PAYLOAD) < PAYLOAD * (length out.old + 1)) × (BLOCK ≤ length out.old) }
-{
+fn run<R: Read>(rt: &(impl Print + Eprint), reader: &mut R) -> Result<(), Failed> {
+    let mut input = [0u8; INPUT_MAX];
+    let mut room = [0u8; ROOM];
+    let mut out = [0u8; OUTPUT];
     let mut stand = logging::begin();
-    let mut reads = READS;
-    while 0 < reads {
-        reads -= 1;
-        let Filled::To(end) = files::fill(rt, reader, b"standard input", input, stand.had) else {
-            return;
-        };
-        let course = stand.course;
+    // A loop shared with the other programs that read so, over a closure, has as many lines at each caller.
+    for _ in 0..READS {
+        let end = files::fill(rt, reader, b"standard input", &mut input, stand.had)?;
         if end == stand.had {
-            finish(rt, course, stand.had, room, out);
-            return;
+            break;
         }
-        stand = logging::take(course, &mut input[..end], room, out);
-        let laid = stand.laid;
-        if !files::write(rt, &out[..laid]) {
-            return;
-        }
-        let next = stand.course;
-        if logging::is_over(next) {
-            finish(rt, next, 0, room, out);
-            return;
+        stand = logging::take(stand.course, &mut input[..end], &mut room, &mut out);
+        files::write(rt, &out[..stand.laid])?;
+        if logging::is_over(stand.course) {
+            break;
         }
     }
+    finish(rt, stand.course, stand.had, &room)
 }
 
 fn main(rt: HostRuntime) {
@@ -88,8 +69,5 @@ fn main(rt: HostRuntime) {
         );
         return;
     }
-    let mut input = [0u8; INPUT_MAX];
-    let mut room = [0u8; ROOM];
-    let mut out = [0u8; OUTPUT];
-    run(&rt, &mut rt.reader(), &mut input, &mut room, &mut out);
+    let _ = run(&rt, &mut rt.reader());
 }

@@ -7,41 +7,37 @@
 
 ghost use Rattle.std.specs.Prelude.{◌≡◌};
 
-use files::{ARGUMENT, Filled};
-use published::{COMPARED_MAX, Compared, FILE_MAX};
+use files::{ARGUMENT, Failed};
+use published::{COMPARED_MAX, FILE_MAX, NotCompared};
 use std::rt::Files;
 
 // One byte more than a file can have that is as it should be: what has it isn't.
 const INPUT: usize = FILE_MAX + 1;
 
 // Compares, and prints or says what comes of it. The file is as it was.
-fn tell(rt: &(impl Print + Eprint), file: &[u8])
+fn tell(rt: &(impl Print + Eprint), file: &[u8]) -> Result<(), Failed>
     ensures { file.now ≡ file.now }
 {
     let mut out = [0u8; COMPARED_MAX];
     match published::compare(file, &mut out) {
-        Compared::Text(n) => {
-            files::write(rt, &out[..n]);
-        }
-        Compared::Wrong(line) => {
+        Ok(n) => files::write(rt, &out[..n]),
+        Err(NotCompared::Wrong(line)) => {
             let n = published::say(&mut out, line);
             files::complain(rt, &out[..n]);
+            Err(Failed)
         }
-        Compared::NoRoom => {}
+        Err(NotCompared::NoRoom) => Ok(()),
     }
 }
 
 // Opens the file, reads it, and compares. Its name is as it was.
-fn run(rt: &(impl Files + Print + Eprint), name: &[u8])
+fn run(rt: &(impl Files + Print + Eprint), name: &[u8]) -> Result<(), Failed>
     ensures { name.now ≡ name.now }
 {
-    let Some(mut file) = files::open(rt, name) else {
-        return;
-    };
+    let mut file = files::open(rt, name)?;
     let mut text = [0u8; INPUT];
-    if let Filled::To(n) = files::load(rt, &mut file, name, &mut text) {
-        tell(rt, &text[..n]);
-    }
+    let n = files::load(rt, &mut file, name, &mut text)?;
+    tell(rt, &text[..n])
 }
 
 fn main(rt: HostRuntime) {
@@ -53,7 +49,7 @@ fn main(rt: HostRuntime) {
         return;
     }
     let mut name = [0u8; ARGUMENT];
-    if let Some(n) = files::file_name(&rt, 1, b"names: the file's name", &mut name) {
-        run(&rt, &name[..n]);
+    if let Ok(n) = files::file_name(&rt, 1, b"names: the file's name", &mut name) {
+        let _ = run(&rt, &name[..n]);
     }
 }

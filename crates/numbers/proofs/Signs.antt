@@ -1,84 +1,39 @@
 -- The signed number of 32 bits, and the status of four bytes: the two directions undo each other.
--- A signed local holds bits, so that goals speak of `to_z w32 (of_z w32 z)`, which is z where z fits.
 -- Assumes nothing.
-use mathlib.Core.Path.{◌≡◌, refl, sym, ◌∙◌}
+use mathlib.Core.Path.{◌≡◌, refl}
 use mathlib.Core.List.{List, [], ◌∷◌, map}
 use mathlib.Core.Logic.{⊎_elim}
-use Prim.Native.Nat.{ℕ, zero, suc, ◌-◌, ◌≤◌, ◌<◌, ◌^◌}
-use native.Mathlib.Nat.{zero-add}
+use Prim.Native.Nat.{ℕ, suc, ◌-◌, ◌≤◌, ◌<◌, ◌^◌}
 use native.Mathlib.Omega.{arith}
-use borrow.Author.Tests.{lt-ltb, le-ltb, leb-false}
-use mathlib.Core.Bool.{true, false}
-use lib.Signed.{le_z, non_neg}
-use lib.IntN.{ℤ, pos, negsuc, nat_abs, ◌-ℤ◌}
-use lib.Dec.{T}
+use borrow.Author.Tests.{lt-ltb, le-ltb}
+use mathlib.Core.Bool.{Bool, true, false, cond}
+use lib.IntN.{ℤ, pos, negsuc}
+use lib.Dec.{ltb}
 use mir.Syntax.{w32}
-use mir.Val.{to_z, of_z, SFits, Fits}
-use mir.Facts.{to_z_pos, to_z-of_z}
+use mir.Val.{to_z, of_z, sel, SFits}
 use lib.ListN.{length}
 use lib.Seq.{take_all}
-use Rattle.lists.proofs.Cases.{lt_or_le, true_not_false}
+use Rattle.lists.proofs.Cases.{lt_or_le}
 use Rattle.numbers.specs.Numbers.{Bytes, NUMBERS, little, bytes_of}
 use Rattle.numbers.specs.Status.{signed_of, unsigned_of, status_of, status_bytes, is_success}
 use Rattle.numbers.proofs.Widths.{length_bytes_of, little_below, little_bytes_of, bytes_of_little}
 
-below : (k : ℕ) → negsuc 0 -ℤ pos k ≡ negsuc k
-below zero = refl
-below (suc k) = simp zero-add
+-- ---- as the library has them: the number read as signed, and its bits
 
-under : (k : ℕ) → negsuc 0 -ℤ negsuc k ≡ pos k
-under k =
-    let e : suc k - 1 ≡ k = omega arith in
-    simp (le-ltb (suc k) 1 (omega arith), e)
-
--- -1 less a small number
-low : (k : ℕ) → k < 2147483648 → negsuc 0 -ℤ to_z w32 k ≡ negsuc k
-low k h = simp (to_z_pos w32 h) (below k)
-
-pub low_fits : (k : ℕ) → k < 2147483648 → SFits w32 (negsuc 0 -ℤ to_z w32 k)
-low_fits k h = rw (low k h) (record { sfits = h })
-
-pub is_pos : (v : ℕ) → v < 2147483648 → to_z w32 v ≡ signed_of v
+pub signed_cast : (v : ℕ) → to_z w32 v ≡ signed_of v
 unfolding signed_of
-is_pos v h = simp (lt-ltb _ _ h)
+signed_cast v =
+    let e : 4294967296 - suc v ≡ 4294967295 - v = omega arith in
+    rw e (go (ltb v 2147483648))
+  where
+    go : (t : Bool) → sel t (pos v) (negsuc (4294967295 - v)) ≡ cond t (pos v) (negsuc (4294967295 - v))
+    go true = refl
+    go false = refl
 
-pub is_neg : (v : ℕ) → 2147483648 ≤ v → to_z w32 (of_z w32 (negsuc 0 -ℤ to_z w32 (4294967295 - v))) ≡ signed_of v
-unfolding signed_of
-is_neg v h =
-    let k : 4294967295 - v < 2147483648 = omega arith in
-    to_z-of_z (low_fits _ k) ∙ low _ k ∙ simp (le-ltb _ _ h)
-
--- ---- and back: z as the code has it, read back from its bits
-abbrev back : ℤ → ℤ
-back z = to_z w32 (of_z w32 z)
-
-up : (z : ℤ) → SFits w32 z → le_z (pos 0) z ≡ true → (T (non_neg z) × Fits w32 (nat_abs z)) × (nat_abs z ≡ unsigned_of z)
+pub unsigned_cast : (z : ℤ) → of_z w32 z ≡ unsigned_of z
 unfolding unsigned_of
-up (pos n) f t = ((tt, record { fits = omega (arith, f.sfits) }), refl)
-up (negsuc n) f t = absurd (true_not_false (sym t))
-
-pub up_back : (z : ℤ) → SFits w32 z → le_z (pos 0) (back z) ≡ true
-    → (T (non_neg (back z)) × Fits w32 (nat_abs (back z))) × (nat_abs (back z) ≡ unsigned_of z)
-up_back z f t = rw (to_z-of_z f) (up z f (rw (to_z-of_z f) at t))
-
-pub record Down (z d : ℤ) : Type 0 where
-  pub fits_d : SFits w32 d
-  pub nonneg : T (non_neg d)
-  pub small : nat_abs d ≤ 4294967295
-  pub value : 4294967295 - nat_abs d ≡ unsigned_of z
-
-down : (z : ℤ) → SFits w32 z → le_z (pos 0) z ≡ false → Down z (negsuc 0 -ℤ z)
-unfolding unsigned_of
-down (pos n) f t = let h = leb-false 0 n t in absurd (omega arith)
-down (negsuc k) f t =
-    let e = f.sfits in
-    rw (under k) (record { fits_d = record { sfits = e }; nonneg = tt; small = omega arith; value = refl })
-
-pub down_back : (z : ℤ) → SFits w32 z → le_z (pos 0) (back z) ≡ false → Down z (negsuc 0 -ℤ back z)
-down_back z f t = rw (to_z-of_z f) (down z f (rw (to_z-of_z f) at t))
-
-pub down_back2 : (z : ℤ) → SFits w32 z → le_z (pos 0) (back z) ≡ false → Down z (back (negsuc 0 -ℤ back z))
-down_back2 z f t = let d = down_back z f t in rw (to_z-of_z d.fits_d) d
+unsigned_cast (pos n) = refl
+unsigned_cast (negsuc n) = omega arith
 
 -- ---- the two directions undo each other
 

@@ -4,12 +4,14 @@ use mathlib.Core.Path.{◌≡◌, refl, ap}
 use mathlib.Core.List.{List, [], ◌∷◌, ◌++◌}
 use mathlib.Core.Logic.{⊎_elim}
 use Prim.Native.Nat.{ℕ, zero, suc, ◌+◌, ◌*◌, ◌/◌, ◌%◌, ◌^◌, ◌≤◌, ◌<◌, ◌-◌}
-use native.Mathlib.Nat.{mod-add-div, pow-suc, div-lt_iff_lt-mul}
+use native.Mathlib.Nat.{mod-add-div, pow-suc, div-lt_iff_lt-mul, lt_of_lt_of_le, pow-le-pow_right}
 use native.Mathlib.Omega.{arith}
 use borrow.Author.Tests.{lt-ltb, le-ltb}
 use lib.Dec.{lit<, lit≤, ltb, eqb}
 use lib.ListN.{length, take, drop, get_or, length-take, drop_of_length-le}
 use lib.Seq.{take_all, take_at, drop_at, take-nil, drop-nil, get_or-drop}
+use Rattle.std.specs.Int.{to_le_bytes, from_le_bytes}
+use mir.Syntax.{w32}
 use Rattle.lists.proofs.Cases.{lt_or_le, choice}
 use Rattle.numbers.specs.Numbers.{Bytes, NUMBERS, little, bytes_of, value_of, value_at, width_of, code_for, narrowest}
 use Rattle.numbers.specs.Numbers.{narrow_bytes, wide_of, wide_at}
@@ -192,6 +194,12 @@ value_turn l (suc at) n h k =
     turn zero n (b ∷ l) = omega arith
     turn (suc at) n (b ∷ l) = turn at n l
 
+-- and room for one more below them
+pub value_room : (l : List ℕ) (at : ℕ) → 1 ≤ at → Bytes l → value_at l at (4 - at) < 256 ^ 3
+value_room l at h b =
+    let three : 4 - at ≤ 3 = omega arith in
+    lt_of_lt_of_le (value_below l at (4 - at) (omega arith) b) (pow-le-pow_right (lit< tt) three)
+
 -- the low bytes of more bytes
 pub low_bytes : (n m v : ℕ) → n ≤ m → take n (bytes_of m v) ≡ bytes_of n v
 unfolding bytes_of
@@ -209,3 +217,15 @@ little_four (b ∷ c ∷ []) h = absurd (omega arith)
 little_four (b ∷ c ∷ d ∷ []) h = absurd (omega arith)
 little_four (b ∷ c ∷ d ∷ e ∷ []) h = omega arith
 little_four (b ∷ c ∷ d ∷ e ∷ f ∷ rest) h = absurd (omega arith)
+
+-- ---- as the library has them
+
+pub le_split : (v : ℕ) → to_le_bytes w32 v ≡ bytes_of 4 v
+unfolding bytes_of
+le_split v =
+    let third : v / 65536 ≡ v / 256 / 256 = omega arith in
+    let high : v / 16777216 ≡ v / 256 / 256 / 256 = omega arith in
+    rw (third, high)
+
+pub le_joined : (b : List ℕ) → length b ≡ 4 → from_le_bytes w32 b ≡ little b
+le_joined b h = rw (little_four b h) (omega arith)

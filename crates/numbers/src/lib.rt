@@ -3,19 +3,21 @@
 // Every function takes any bytes and any lengths, and none refuses.
 #![tactic(auto)]
 
-ghost use Rattle.std.specs.Prelude.{◌≡◌, ◌<◌, take};
+ghost use Rattle.std.specs.Prelude.{◌≡◌, take};
 ghost use Rattle.lists.specs.Bytes.{laid, zeros};
 ghost use Rattle.numbers.specs.Numbers.{little, bytes_of, value_of, value_at, width_of, code_for, narrowest, measured_of};
 ghost use Rattle.numbers.specs.Status.{signed_of, unsigned_of, status_of, status_bytes};
 
-// A number that was read, and whether a narrower width would do.
+// A number that was read, and whether a narrower width would do: the number counts either way.
 #[derive(Clone, Copy)]
 pub struct Measured {
     pub value: u32,
     pub wide: bool,
 }
 
-// The bytes of a width code: 1, 2 or 4. The invalid code has none.
+// The bytes of a width code: 1, 2 or 4. The invalid code has none. A code is a number, since callers hand in two bits of a PDU
+// as they stand.
+#[tactic(auto, unfolding(crate::specs::Numbers::width_of))]
 pub fn width(code: u8) -> usize
     ensures { result ≡ width_of code }
 {
@@ -28,19 +30,19 @@ pub fn width(code: u8) -> usize
 }
 
 // The code of the narrowest width that holds the value.
+#[tactic(auto, unfolding(crate::specs::Numbers::code_for))]
 pub fn code(value: u32) -> u8
     ensures { result ≡ code_for value }
 {
-    if value < 256 {
-        return 0;
+    match value {
+        0..=255 => 0,
+        256..=65535 => 1,
+        _ => 2,
     }
-    if value < 65536 {
-        return 1;
-    }
-    2
 }
 
 // The bytes of the narrowest width that holds the value.
+#[tactic(auto, unfolding(crate::specs::Numbers::narrowest))]
 pub fn narrow(value: u32) -> usize
     ensures { result ≡ narrowest value }
 {
@@ -48,50 +50,29 @@ pub fn narrow(value: u32) -> usize
 }
 
 // A four-byte scratch that holds the bytes, with zeros behind fewer than four: what CreationStatus is built from.
+#[tactic(auto, unfolding(lists::specs::Bytes::zeros))]
 pub fn four(bytes: &[u8]) -> [u8; 4]
     ensures { result ≡ laid (zeros 4) 0 bytes.now }
 {
-    let mut scratch = [0u8; 4];
-    let mut i = 0;
-    while i < 4 {
-        if i < bytes.len() {
-            scratch[i] = bytes[i];
-        }
-        i += 1;
-    }
+    let mut scratch = [0; 4];
+    lists::copy(&mut scratch, bytes);
     scratch
 }
 
-fn wide(byte: u8) -> u32
-    ensures { (result ≡ byte) × (result < 256) }
-{
-    byte as u32
-}
-
 // The number that four bytes make.
+#[tactic(auto, using(crate::proofs::Widths::le_joined))]
 pub fn joined(b: [u8; 4]) -> u32
     ensures { result ≡ little b }
 {
-    let low = wide(b[0]);
-    let second = wide(b[1]);
-    let third = wide(b[2]);
-    let high = wide(b[3]);
-    low + 256 * (second + 256 * (third + 256 * high))
+    u32::from_le_bytes(b)
 }
 
 // The four bytes of a number.
+#[tactic(auto, using(crate::proofs::Widths::le_split))]
 pub fn split(value: u32) -> [u8; 4]
     ensures { result ≡ bytes_of 4 value }
 {
-    let second = value / 256;
-    let third = second / 256;
-    let high = third / 256;
-    [
-        (value % 256) as u8,
-        (second % 256) as u8,
-        (third % 256) as u8,
-        (high % 256) as u8,
-    ]
+    value.to_le_bytes()
 }
 
 // The number that the bytes make. Only the first four count: from the top one down each is put below those taken before it.
@@ -100,11 +81,9 @@ pub fn number(bytes: &[u8]) -> u32
     ensures { result ≡ value_of bytes.now }
 {
     let mut value = 0;
-    let mut at = 4;
-    while 0 < at {
-        at -= 1;
-        if at < bytes.len() {
-            value = value * 256 + wide(bytes[at]);
+    for at in (0..4).rev() {
+        if let Some(&byte) = bytes.get(at) {
+            value = value * 256 + u32::from(byte);
         }
     }
     value
@@ -114,12 +93,13 @@ pub fn number(bytes: &[u8]) -> u32
 pub fn short_at(bytes: &[u8], at: usize) -> u16
     ensures { result ≡ value_at bytes.now at 2 }
 {
-    let start = lists::lesser(at, bytes.len());
-    let end = lists::lesser(start + 2, bytes.len());
+    let start = at.min(bytes.len());
+    let end = bytes.len().min(start + 2);
     number(&bytes[start..end]) as u16
 }
 
 // The number that the bytes make, and whether fewer bytes would do.
+#[tactic(auto, unfolding(crate::specs::Numbers::wide_of))]
 pub fn measure(bytes: &[u8]) -> Measured
     ensures { result ≡ measured_of bytes.now }
 {
@@ -135,42 +115,38 @@ pub fn put(out: &mut [u8], at: usize, width: usize, value: u32)
     ensures { out.new ≡ laid out.old at (take width (bytes_of 4 value)) }
 {
     let bytes = split(value);
-    let n = lists::lesser(width, 4);
+    let n = width.min(4);
     lists::copy_at(out, at, &bytes[..n]);
 }
 
 // The signed number of the same 32 bits.
+#[tactic(auto, using(crate::proofs::Signs::signed_cast))]
 pub fn signed(value: u32) -> i32
     ensures { result ≡ signed_of value }
 {
-    if value < 2147483648 {
-        return value as i32;
-    }
-    let below = (4294967295 - value) as i32;
-    -1 - below
+    value.cast_signed()
 }
 
 // The unsigned number of the same 32 bits.
+#[tactic(auto, using(crate::proofs::Signs::unsigned_cast))]
 pub fn unsigned(status: i32) -> u32
     ensures { result ≡ unsigned_of status }
 {
-    if 0 <= status {
-        return status as u32;
-    }
-    let below = -1 - status;
-    4294967295 - below as u32
+    status.cast_unsigned()
 }
 
 // CreationStatus, built from its four bytes.
+#[tactic(auto, using(crate::proofs::Widths::le_joined, crate::proofs::Signs::signed_cast), unfolding(crate::specs::Status::status_of))]
 pub fn status(bytes: [u8; 4]) -> i32
     ensures { result ≡ status_of bytes }
 {
-    signed(joined(bytes))
+    i32::from_le_bytes(bytes)
 }
 
 // CreationStatus, split into its four bytes.
+#[tactic(auto, using(crate::proofs::Widths::le_split, crate::proofs::Signs::unsigned_cast), unfolding(crate::specs::Status::status_bytes))]
 pub fn status_bytes(status: i32) -> [u8; 4]
     ensures { result ≡ status_bytes status }
 {
-    split(unsigned(status))
+    status.to_le_bytes()
 }

@@ -1,5 +1,6 @@
 -- What a PDU brings is small: its channel number has 32 bits, and a block is no longer than a PDU.
 -- Assumes nothing.
+use Rattle.std.specs.Prelude.{Option, None, Some}
 use mathlib.Core.Bool.{Bool, not}
 use mathlib.Core.List.{List}
 use Prim.Native.Nat.{ℕ, ◌+◌, ◌-◌, ◌/◌, ◌%◌, ◌≤◌, ◌<◌}
@@ -14,8 +15,6 @@ use Rattle.lists.specs.Bytes.{is_zero}
 use Rattle.lists.proofs.Cases.{choice}
 use Rattle.numbers.specs.Numbers.{Bytes, NUMBERS, value_at, width_of}
 use Rattle.numbers.proofs.Widths.{value_below}
-use Rattle.reading.specs.declared.Carried.{Carried}
-use Rattle.reading.specs.declared.Carried.TheVariants.{NoNumber, Number}
 use Rattle.reading.specs.declared.Extent.{Extent}
 use Rattle.reading.specs.declared.Pdu.{Pdu}
 use Rattle.reading.specs.declared.Pdu.TheVariants.{CreateRequest, CreateResponse, DataFirst, Data, Close}
@@ -37,9 +36,9 @@ Brings pdu (CapsResponse version) = Unit {0}
 Brings pdu (Refused why) = Unit {0}
 
 -- the number that a garbled block carries
-abbrev pub CarriesSmall : Carried → Type 0
-CarriesSmall NoNumber = Unit {0}
-CarriesSmall (Number n) = n < NUMBERS
+abbrev pub CarriesSmall : Option ℕ → Type 0
+CarriesSmall None = Unit {0}
+CarriesSmall (Some n) = n < NUMBERS
 
 -- the bytes at a place are no more than the PDU's
 pub block_length : (pdu : List ℕ) (block : Extent) → length (bytes_at pdu block) ≤ length pdu

@@ -1,5 +1,6 @@
 -- The channel that an answer carries is the one that was asked of, and the place that is shown is the one that was found.
 -- Assumes nothing.
+use Rattle.std.specs.Prelude.{Option, None, Some}
 use mathlib.Core.Path.{◌≡◌, refl}
 use mathlib.Core.Bool.{Bool, not, ◌&&◌, ◌||◌}
 use mathlib.Core.Logic.{◌⊎◌, inl, inr, ⊎_elim}
@@ -10,8 +11,6 @@ use Rattle.lists.proofs.Cases.{choice}
 use Rattle.channel.specs.declared.Record.{Record}
 use Rattle.channel.specs.declared.Took.{Took}
 use Rattle.channel.specs.declared.Took.TheVariants.{Bars, Spoils, Holds, Finishes}
-use Rattle.channel.specs.declared.Concern.{Concern}
-use Rattle.channel.specs.declared.Concern.TheVariants.{NoChannel, Channel}
 use Rattle.channel.specs.declared.Answer.{Answer}
 use Rattle.channel.specs.declared.Answer.TheVariants as client
 use Rattle.channel.specs.declared.Ask.{Ask}
@@ -40,10 +39,10 @@ use Rattle.shore.specs.Deciding.{responding, settling, seen_row, as_common, deci
 use Rattle.packing.specs.Packing.{channel_of, channel_for, answer_place, said_place, packed_answer, packed_said, packed_for, packed_said_for}
 
 -- no channel, or the one with the number
-abbrev pub Owned : ℕ → Concern → Type 0
-Owned n concern = (concern ≡ NoChannel) ⊎ (concern ≡ Channel n)
+abbrev pub Owned : ℕ → Option ℕ → Type 0
+Owned n concern = (concern ≡ None) ⊎ (concern ≡ Some n)
 
-own_channel : (n : ℕ) (concern : Concern) → Owned n concern → channel_for n concern ≡ channel_of concern
+own_channel : (n : ℕ) (concern : Option ℕ) → Owned n concern → channel_for n concern ≡ channel_of concern
 unfolding channel_for channel_of
 own_channel n concern h = ⊎_elim (λ e. rw e refl) (λ e. rw e refl) h
 

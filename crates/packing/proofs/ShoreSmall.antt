@@ -1,6 +1,7 @@
 -- Every answer of a call of the shore is small, what it sends fits its bits, and so does the place of a message: so its
 -- number gives all of it back.
 -- Assumes nothing.
+use Rattle.std.specs.Prelude.{None, Some, Option}
 use mathlib.Core.Path.{◌≡◌, refl, sym}
 use mathlib.Core.Bool.{Bool, true, false, cond, not, ◌&&◌, ◌||◌}
 use mathlib.Core.List.{List, []}
@@ -16,8 +17,6 @@ use Rattle.paper.specs.declared.Refusal.{Refusal}
 use Rattle.paper.specs.declared.Refusal.TheVariants.{BadCall, BadField, WrongTime, OverLimit, AllTaken, NotAwaited}
 use Rattle.lists.proofs.Cases.{choice, true_not_false}
 use Rattle.numbers.specs.Numbers.{Bytes, NUMBERS}
-use Rattle.reading.specs.declared.Carried.{Carried}
-use Rattle.reading.specs.declared.Carried.TheVariants.{NoNumber, Number}
 use Rattle.reading.specs.declared.Charges.{Charges}
 use Rattle.reading.specs.declared.Pdu.{Pdu}
 use Rattle.reading.specs.declared.Pdu.TheVariants.{CreateRequest, CreateResponse, DataFirst, Data, Close}
@@ -30,7 +29,6 @@ use Rattle.laying.specs.Laying.{create_request_bytes}
 use Rattle.laying.proofs.Lengths.{length_caps_request}
 use Rattle.writing.specs.Writing.{bad_request, all_zero, bad_capabilities}
 use Rattle.channel.specs.declared.Record.{Record}
-use Rattle.channel.specs.declared.Concern.TheVariants.{NoChannel, Channel}
 use Rattle.channel.specs.declared.Answer.{Answer}
 use Rattle.channel.specs.declared.Answer.TheVariants as client
 use Rattle.channel.specs.declared.Ask.TheVariants as ask
@@ -50,7 +48,7 @@ use Rattle.shore.specs.declared.Said.TheVariants.{Asked, Ready, Awaited, Opened,
 use Rattle.shore.specs.declared.Shore.{Shore}
 use Rattle.shore.specs.declared.Given.{Given}
 use Rattle.shore.specs.declared.Sending.{Sending}
-use Rattle.shore.specs.declared.Heard.{Heard}
+use Rattle.client.specs.declared.Asked.{Asked as Call}
 use Rattle.shore.specs.declared.Matter.{Matter}
 use Rattle.shore.specs.declared.Matter.TheVariants.{Unread, Caps, Status, Block, End}
 use Rattle.shore.specs.declared.Decided.{Decided}
@@ -75,7 +73,7 @@ use Rattle.packing.proofs.Small.{refusal_small, Fine, DecidedFine, decided_fine,
 -- ---- small answers
 
 -- a refusal that concerns no channel
-none_small : (why : Refusal) → SmallSaid (Refused why NoChannel)
+none_small : (why : Refusal) → SmallSaid (Refused why None)
 unfolding concern_said channel_of number_said
 none_small why = record { channel = lit< tt; number = refusal_small why }
 
@@ -101,7 +99,7 @@ module _ (n : ℕ) (h : n < NUMBERS) where
   unfolding concern_said channel_of number_said
   declined_small = record { channel = h; number = lit< tt }
 
-  unawaited_small : SmallSaid (Refused NotAwaited (Channel n))
+  unawaited_small : SmallSaid (Refused NotAwaited (Some n))
   unfolding concern_said channel_of number_said
   unawaited_small = record { channel = h; number = lit< tt }
 
@@ -233,7 +231,7 @@ module _ (s : Shore) (store : List ℕ) (long : length s.table.records ≡ PARTS
       })
 
   call_fits :
-      (a : Heard) (pdu : List ℕ) (event : Event) (reply : List ℕ) → event_asked a pdu ≡ event → a.number < NUMBERS
+      (a : Call Matter) (pdu : List ℕ) (event : Event) (reply : List ℕ) → event_asked a pdu ≡ event → a.number < NUMBERS
       → length (bytes_at pdu a.block) < 8192 → GivenFits (called s store event reply).result
   unfolding whole_of event_asked
   call_fits a pdu event reply e h l = go (bad_call s.table (length store) (length reply)) refl
@@ -247,13 +245,13 @@ module _ (s : Shore) (store : List ℕ) (long : length s.table.records ≡ PARTS
 
 -- ---- what a PDU asks
 
-abbrev HeardSmall : List ℕ → Heard → Type 0
+abbrev HeardSmall : List ℕ → Call Matter → Type 0
 HeardSmall pdu a = (a.number < NUMBERS) × (length (bytes_at pdu a.block) < 8192)
 
-unread_small : (pdu : List ℕ) (why : Refusal) (carried : Carried) → CarriesSmall carried → HeardSmall pdu (unread_heard why carried)
+unread_small : (pdu : List ℕ) (why : Refusal) (carried : Option ℕ) → CarriesSmall carried → HeardSmall pdu (unread_heard why carried)
 unfolding unread_heard bytes_at
-unread_small pdu why NoNumber h = (lit< tt, lit< tt)
-unread_small pdu why (Number n) h = (h, lit< tt)
+unread_small pdu why None h = (lit< tt, lit< tt)
+unread_small pdu why (Some n) h = (h, lit< tt)
 
 heard_small : (pdu : List ℕ) → Bytes pdu → (p : Pdu) → Brings pdu p → HeardSmall pdu (heard_in pdu p)
 unfolding heard_in bytes_at PDU_MAX

@@ -1,6 +1,7 @@
 -- Every answer of a call of the client is small, what it sends fits its bits, and so does the place of a message: so its
 -- number gives all of it back.
 -- Assumes nothing.
+use Rattle.std.specs.Prelude.{None, Some, Option}
 use mathlib.Core.Path.{◌≡◌, refl, sym, ap, ◌∙◌}
 use mathlib.Core.Bool.{Bool, true, false, not, ◌&&◌}
 use mathlib.Core.List.{List, []}
@@ -19,8 +20,6 @@ use Rattle.paper.specs.declared.Refusal.TheVariants.{AllTaken, NotAwaited, NotSe
 use Rattle.lists.proofs.Cases.{choice, true_not_false, lt_or_le}
 use Rattle.numbers.specs.Numbers.{Bytes, NUMBERS}
 use Rattle.numbers.proofs.Widths.{narrowest_le}
-use Rattle.reading.specs.declared.Carried.{Carried}
-use Rattle.reading.specs.declared.Carried.TheVariants.{NoNumber, Number}
 use Rattle.reading.specs.declared.Pdu.{Pdu}
 use Rattle.reading.specs.declared.Pdu.TheVariants.{CreateRequest, CreateResponse, DataFirst, Data, Close}
 use Rattle.reading.specs.declared.Pdu.TheVariants.{CapsRequest, CapsResponse, Refused as NotRead}
@@ -36,7 +35,6 @@ use Rattle.channel.specs.declared.Offer.TheVariants.{First, More}
 use Rattle.channel.specs.declared.Took.{Took}
 use Rattle.channel.specs.declared.Took.TheVariants.{Bars, Spoils, Holds, Finishes}
 use Rattle.channel.specs.declared.Decline.TheVariants.{Unlisted, Full}
-use Rattle.channel.specs.declared.Concern.TheVariants.{NoChannel, Channel}
 use Rattle.channel.specs.declared.Answer.{Answer}
 use Rattle.channel.specs.declared.Answer.TheVariants.{Ready, Opened, Declined, Held, Message, Closed, Ignored, Refused}
 use Rattle.channel.specs.declared.Ask.{Ask}
@@ -99,7 +97,7 @@ refusal_small LogFull = lit< tt
 refusal_small NotBlocks = lit< tt
 
 -- a refusal that concerns no channel
-none_small : (why : Refusal) → Small (Refused why NoChannel)
+none_small : (why : Refusal) → Small (Refused why None)
 unfolding concern_of channel_of number_of
 none_small why = record { channel = lit< tt; number = refusal_small why }
 
@@ -109,7 +107,7 @@ ready_small level h = record { channel = lit< tt; number = h }
 
 -- those of a channel
 module _ (n : ℕ) (h : n < NUMBERS) where
-  refused_small : (why : Refusal) → Small (Refused why (Channel n))
+  refused_small : (why : Refusal) → Small (Refused why (Some n))
   unfolding concern_of channel_of number_of
   refused_small why = record { channel = h; number = refusal_small why }
 
@@ -294,7 +292,7 @@ module _ (t : Table) (store : List ℕ) (long : length t.records ≡ PARTS) wher
       })
 
   call_fits :
-      (a : Asked) (pdu : List ℕ) (event : Event) (reply : List ℕ) → event_asked a pdu ≡ event → a.number < NUMBERS
+      (a : Asked Matter) (pdu : List ℕ) (event : Event) (reply : List ℕ) → event_asked a pdu ≡ event → a.number < NUMBERS
       → length (bytes_at pdu a.block) < 8192 → Fits (called t store event reply).result
   unfolding whole_of event_asked
   call_fits a pdu event reply e h l = go (bad_call t (length store) (length reply)) refl
@@ -308,13 +306,13 @@ module _ (t : Table) (store : List ℕ) (long : length t.records ≡ PARTS) wher
 
 -- ---- what a PDU asks
 
-abbrev AskedSmall : List ℕ → Asked → Type 0
+abbrev AskedSmall : List ℕ → Asked Matter → Type 0
 AskedSmall pdu a = (a.number < NUMBERS) × (length (bytes_at pdu a.block) < 8192)
 
-unread_small : (pdu : List ℕ) (why : Refusal) (carried : Carried) → CarriesSmall carried → AskedSmall pdu (unread_ask why carried)
+unread_small : (pdu : List ℕ) (why : Refusal) (carried : Option ℕ) → CarriesSmall carried → AskedSmall pdu (unread_ask why carried)
 unfolding unread_ask bytes_at
-unread_small pdu why NoNumber h = (lit< tt, lit< tt)
-unread_small pdu why (Number n) h = (h, lit< tt)
+unread_small pdu why None h = (lit< tt, lit< tt)
+unread_small pdu why (Some n) h = (h, lit< tt)
 
 heard_small : (list pdu : List ℕ) → Bytes pdu → (p : Pdu) → Brings pdu p → AskedSmall pdu (heard_in list pdu p)
 unfolding heard_in bytes_at PDU_MAX

@@ -1,5 +1,6 @@
 -- Packing is undone: a packed answer gives back every field, and the answer itself.
 -- Assumes nothing.
+use Rattle.std.specs.Prelude.{Option, None, Some}
 use mathlib.Core.Path.{◌≡◌, refl}
 use Prim.Native.Nat.{ℕ, ◌<◌, ◌≤◌}
 use native.Mathlib.Omega.{arith}
@@ -11,8 +12,6 @@ use Rattle.paper.specs.declared.Refusal.TheVariants.{AlreadyOpen, StillJoining, 
 use Rattle.paper.specs.declared.Refusal.TheVariants.{AllTaken, NotAwaited, NotSets, Loose, NoPartner, NoRoom, LogFull, NotBlocks}
 use Rattle.channel.specs.declared.Decline.{Decline}
 use Rattle.channel.specs.declared.Decline.TheVariants.{Unlisted, Full}
-use Rattle.channel.specs.declared.Concern.{Concern}
-use Rattle.channel.specs.declared.Concern.TheVariants.{NoChannel, Channel}
 use Rattle.channel.specs.declared.Answer.{Answer}
 use Rattle.channel.specs.declared.Answer.TheVariants.{Ready, Opened, Declined, Held, Message, Closed, Ignored, Refused}
 use Rattle.channel.specs.Answers.{concern_of, number_of, decline_number}
@@ -84,10 +83,10 @@ decline_back Full = refl
 
 -- ---- the client's answer
 
-refused_some : (concern : Concern) → 1 ≤ refused_word concern
+refused_some : (concern : Option ℕ) → 1 ≤ refused_word concern
 unfolding refused_word
-refused_some NoChannel = lit≤ tt
-refused_some (Channel n) = lit≤ tt
+refused_some None = lit≤ tt
+refused_some (Some n) = lit≤ tt
 
 word_some : (a : Answer) → 1 ≤ answer_word a
 unfolding answer_word
@@ -141,13 +140,13 @@ answer_back (Message n len) place sent h =
     )
 answer_back (Closed n) place sent h = rw (word_back 13 n 0 0 sent h.channel, channel_back 13 n 0 0 sent h.channel)
 answer_back (Ignored n) place sent h = rw (word_back 14 n 0 0 sent h.channel, channel_back 14 n 0 0 sent h.channel)
-answer_back (Refused why NoChannel) place sent h =
+answer_back (Refused why None) place sent h =
     rw (
       word_back 7 0 (refusal_number why) 0 sent h.channel,
       number_back 7 0 (refusal_number why) 0 sent h.channel h.number,
       refusal_back why,
     )
-answer_back (Refused why (Channel n)) place sent h =
+answer_back (Refused why (Some n)) place sent h =
     rw (
       word_back 15 n (refusal_number why) 0 sent h.channel,
       channel_back 15 n (refusal_number why) 0 sent h.channel,
@@ -208,13 +207,13 @@ said_back (shore.Message n len) place sent h =
     )
 said_back (shore.Closed n) place sent h = rw (word_back 13 n 0 0 sent h.channel, channel_back 13 n 0 0 sent h.channel)
 said_back (shore.Ignored n) place sent h = rw (word_back 14 n 0 0 sent h.channel, channel_back 14 n 0 0 sent h.channel)
-said_back (shore.Refused why NoChannel) place sent h =
+said_back (shore.Refused why None) place sent h =
     rw (
       word_back 7 0 (refusal_number why) 0 sent h.channel,
       number_back 7 0 (refusal_number why) 0 sent h.channel h.number,
       refusal_back why,
     )
-said_back (shore.Refused why (Channel n)) place sent h =
+said_back (shore.Refused why (Some n)) place sent h =
     rw (
       word_back 15 n (refusal_number why) 0 sent h.channel,
       channel_back 15 n (refusal_number why) 0 sent h.channel,

@@ -1,8 +1,6 @@
 -- An answer in one number of 64 bits: the channel in bits 0 to 31, the paper's number in bits 32 to 44, the place of the message in bits
 -- 45 to 48, how many bytes to send in bits 49 to 59, and the word in bits 60 to 63. Bit 63 says that there is a channel.
-use Rattle.std.specs.Prelude.{ℕ, ◌+◌, ◌*◌, ◌%◌}
-use Rattle.channel.specs.declared.Concern.{Concern}
-use Rattle.channel.specs.declared.Concern.TheVariants.{NoChannel, Channel}
+use Rattle.std.specs.Prelude.{ℕ, ◌+◌, ◌*◌, ◌%◌, Option, None, Some}
 use Rattle.channel.specs.declared.Answer.{Answer}
 use Rattle.channel.specs.declared.Answer.TheVariants.{Ready, Opened, Declined, Held, Message, Closed, Ignored, Refused}
 use Rattle.channel.specs.Answers.{concern_of, number_of}
@@ -20,9 +18,9 @@ abbrev pub COUNTED : ℕ
 COUNTED = 3
 
 -- refused, with a channel or without
-unfoldable pub refused_word : Concern → ℕ
-refused_word NoChannel = 7
-refused_word (Channel n) = 15
+unfoldable pub refused_word : Option ℕ → ℕ
+refused_word None = 7
+refused_word (Some n) = 15
 
 unfoldable pub answer_word : Answer → ℕ
 answer_word (Ready level) = 2
@@ -48,9 +46,9 @@ said_word (shore.Refused why concern) = refused_word concern
 
 -- ---- the channel, or 0 without one
 
-unfoldable pub channel_of : Concern → ℕ
-channel_of NoChannel = 0
-channel_of (Channel n) = n
+unfoldable pub channel_of : Option ℕ → ℕ
+channel_of None = 0
+channel_of (Some n) = n
 
 -- ---- the place, of a message
 
@@ -86,9 +84,9 @@ packed_said s place sent = packed (said_word s) (channel_of (concern_said s)) (n
 
 -- ---- as the code packs: the channel is the one that was asked of. proofs/Own shows that this is the same.
 
-unfoldable pub channel_for : ℕ → Concern → ℕ
-channel_for n NoChannel = 0
-channel_for n (Channel m) = n
+unfoldable pub channel_for : ℕ → Option ℕ → ℕ
+channel_for n None = 0
+channel_for n (Some m) = n
 
 unfoldable pub packed_for : ℕ → Answer → ℕ → ℕ → ℕ
 packed_for n a place sent = packed (answer_word a) (channel_for n (concern_of a)) (number_of a) (answer_place a place) sent

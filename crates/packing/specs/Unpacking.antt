@@ -1,12 +1,11 @@
 -- A packed answer, taken apart: what the header's helpers do.
-use Rattle.std.specs.Prelude.{ℕ, ◌-◌, ◌/◌, ◌%◌, ◌<◌, cond, [], ◌∷◌, eqb, get_or}
+use Rattle.std.specs.Prelude.{ℕ, ◌-◌, ◌/◌, ◌%◌, ◌<◌, cond, [], ◌∷◌, eqb, get_or, None, Some}
 use Rattle.paper.specs.declared.Refusal.{Refusal}
 use Rattle.paper.specs.declared.Refusal.TheVariants.{BadCall, CutShort, TooLong, NoCommand, BadField, BadList, WrongTime, NotOpen}
 use Rattle.paper.specs.declared.Refusal.TheVariants.{AlreadyOpen, StillJoining, OverLimit, PastLength, IsSpoiled, NoStart}
 use Rattle.paper.specs.declared.Refusal.TheVariants.{AllTaken, NotAwaited, NotSets, Loose, NoPartner, NoRoom, LogFull, NotBlocks}
 use Rattle.channel.specs.declared.Decline.{Decline}
 use Rattle.channel.specs.declared.Decline.TheVariants.{Unlisted, Full}
-use Rattle.channel.specs.declared.Concern.TheVariants.{NoChannel, Channel}
 use Rattle.channel.specs.declared.Answer.{Answer}
 use Rattle.channel.specs.declared.Answer.TheVariants.{Ready, Opened, Declined, Held, Message, Closed, Ignored, Refused}
 use Rattle.channel.specs.Answers.{concern_of, number_of}
@@ -47,10 +46,10 @@ answer_in p =
     let n = channel_in p in
     let v = number_in p in
     get_or
-    (Refused BadCall NoChannel ∷ Refused BadCall NoChannel ∷ Ready v ∷ Refused BadCall NoChannel ∷ Refused BadCall NoChannel
-    ∷ Refused BadCall NoChannel ∷ Refused BadCall NoChannel ∷ Refused (refusal_of v) NoChannel ∷ Refused BadCall NoChannel ∷ Opened n
-    ∷ Declined n (decline_of v) ∷ Held n v ∷ Message n v ∷ Closed n ∷ Ignored n ∷ Refused (refusal_of v) (Channel n) ∷ [])
-    (word_in p) (Refused BadCall NoChannel)
+    (Refused BadCall None ∷ Refused BadCall None ∷ Ready v ∷ Refused BadCall None ∷ Refused BadCall None
+    ∷ Refused BadCall None ∷ Refused BadCall None ∷ Refused (refusal_of v) None ∷ Refused BadCall None ∷ Opened n
+    ∷ Declined n (decline_of v) ∷ Held n v ∷ Message n v ∷ Closed n ∷ Ignored n ∷ Refused (refusal_of v) (Some n) ∷ [])
+    (word_in p) (Refused BadCall None)
 
 -- the shore's
 unfoldable pub said_in : ℕ → Said
@@ -58,11 +57,11 @@ said_in p =
     let n = channel_in p in
     let v = number_in p in
     get_or
-    (shore.Refused BadCall NoChannel ∷ shore.Asked v ∷ shore.Ready v ∷ shore.Refused BadCall NoChannel ∷ shore.Refused BadCall NoChannel
-    ∷ shore.Refused BadCall NoChannel ∷ shore.Refused BadCall NoChannel ∷ shore.Refused (refusal_of v) NoChannel ∷ shore.Awaited n
+    (shore.Refused BadCall None ∷ shore.Asked v ∷ shore.Ready v ∷ shore.Refused BadCall None ∷ shore.Refused BadCall None
+    ∷ shore.Refused BadCall None ∷ shore.Refused BadCall None ∷ shore.Refused (refusal_of v) None ∷ shore.Awaited n
     ∷ shore.Opened n ∷ shore.Declined n ∷ shore.Held n v ∷ shore.Message n v ∷ shore.Closed n ∷ shore.Ignored n
-    ∷ shore.Refused (refusal_of v) (Channel n) ∷ [])
-    (word_in p) (shore.Refused BadCall NoChannel)
+    ∷ shore.Refused (refusal_of v) (Some n) ∷ [])
+    (word_in p) (shore.Refused BadCall None)
 
 -- ---- the answers that are got back whole: a channel of 32 bits, a number of 13. proofs/Small shows that every call's is so.
 

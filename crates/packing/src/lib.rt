@@ -6,10 +6,9 @@
 
 ghost use Rattle.std.specs.Prelude.{◌≡◌, ◌<◌};
 ghost use Rattle.paper.specs.Refusals.{refusal_number};
-ghost use Rattle.channel.specs.Answers.{decline_number};
 ghost use Rattle.packing.specs.Packing.{COUNTED, packed, refused_word, channel_for, packed_for, packed_said_for};
 
-use channel::{Answer, Concern, Decline};
+use channel::Answer;
 use paper::Refusal;
 use shore::Said;
 
@@ -21,33 +20,25 @@ fn pack(word: u64, channel: u32, number: u64, place: usize, sent: usize) -> u64
     channel as u64 + 4294967296 * (number % 8192 + 8192 * behind)
 }
 
-fn pack_refusal(why: Refusal, concern: Concern, number: u32, sent: usize) -> u64
+fn pack_refusal(why: Refusal, concern: Option<u32>, number: u32, sent: usize) -> u64
     ensures { result ≡ packed (refused_word concern) (channel_for number concern) (refusal_number why) 0 sent }
 {
     let which = paper::refusal_number(why) as u64;
     match concern {
-        Concern::NoChannel => pack(7, 0, which, 0, sent),
-        Concern::Channel(_) => pack(15, number, which, 0, sent),
-    }
-}
-
-fn decline_number(why: Decline) -> u64
-    ensures { result ≡ decline_number why }
-{
-    match why {
-        Decline::Unlisted => 1,
-        Decline::Full => 2,
+        None => pack(7, 0, which, 0, sent),
+        Some(_) => pack(15, number, which, 0, sent),
     }
 }
 
 // The client's answer, whose channel is the one that was asked of.
+#[tactic(auto, unfolding(crate::specs::Packing::packed_for, crate::specs::Packing::answer_word, crate::specs::Packing::channel_for, crate::specs::Packing::answer_place, channel::specs::Answers::concern_of, channel::specs::Answers::number_of, channel::specs::Answers::decline_number))]
 pub fn pack_answer(answer: Answer, n: u32, place: usize, sent: usize) -> u64
     ensures { result ≡ packed_for n answer place sent }
 {
     match answer {
         Answer::Ready { level } => pack(2, 0, level as u64, 0, sent),
         Answer::Opened { number: _ } => pack(9, n, 0, 0, sent),
-        Answer::Declined { number: _, why } => pack(10, n, decline_number(why), 0, sent),
+        Answer::Declined { number: _, why } => pack(10, n, why as u64, 0, sent),
         Answer::Held { number: _, left } => pack(11, n, left as u64, 0, sent),
         Answer::Message { number: _, len } => pack(12, n, len as u64, place, sent),
         Answer::Closed { number: _ } => pack(13, n, 0, 0, sent),

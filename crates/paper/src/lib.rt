@@ -62,81 +62,59 @@ pub const FULL: i32 = -2147024882;
 #[derive(Clone, Copy)]
 pub enum Refusal {
     // 1: store, reply or PDU buffer is not of its size, or the table passed in is unsound.
-    BadCall,
+    BadCall = 1,
     // 2: the PDU is empty, or ends inside a field or before the name's zero.
-    CutShort,
+    CutShort = 2,
     // 3: the PDU is longer than 1,600.
-    TooLong,
+    TooLong = 3,
     // 4: Cmd is not 1 to 5.
-    NoCommand,
+    NoCommand = 4,
     // 5: width code 3; Capabilities with cbId or Pad not 0, or Version not 1 to 3; bytes after the last field or after
     // the name's zero. On writing: a name with a zero byte, such a Version, a class over 3, or charges other than 0
     // with version 1.
-    BadField,
+    BadField = 5,
     // 6: Create request with a listener list outside its rule.
-    BadList,
+    BadList = 6,
     // 7: Capabilities request when already ready; any other readable PDU or a local close when not ready. At the shore: a
     // second request, a Capabilities response that is unasked or comes when ready; any other PDU, a local open or a local
     // close when not ready.
-    WrongTime,
+    WrongTime = 7,
     // 8: data or local close for a number that isn't open.
-    NotOpen,
+    NotOpen = 8,
     // 9: Create request for a number that is open.
-    AlreadyOpen,
+    AlreadyOpen = 9,
     // 10: Data First while a message is being joined.
-    StillJoining,
+    StillJoining = 10,
     // 11: Data First with Length over 4,096. On cutting: a message over 4,096. On writing: a PDU that would pass 1,600.
-    OverLimit,
+    OverLimit = 11,
     // 12: block longer than what is still to come.
-    PastLength,
+    PastLength = 12,
     // 13: data for a spoiled channel.
-    IsSpoiled,
+    IsSpoiled = 13,
     // 14: cutting: the offset is not a start of a block.
-    NoStart,
+    NoStart = 14,
     // 15: local open with sixteen numbers open or awaited.
-    AllTaken,
+    AllTaken = 15,
     // 16: Create response for a number that isn't awaited.
-    NotAwaited,
+    NotAwaited = 16,
     // 17: report of shares: the file's length is not a multiple of eight, or it has more than 65,536 sets.
-    NotSets,
+    NotSets = 17,
     // 18: strict reading: wide number or Length, or ignored bits set.
-    Loose,
+    Loose = 18,
     // 19: converting a name: a byte or code point without partner, or UTF-8 that isn't well formed.
-    NoPartner,
+    NoPartner = 19,
     // 20: converting a name: the result doesn't fit the lent buffer.
-    NoRoom,
+    NoRoom = 20,
     // 21: link log: the record doesn't fit in 65,536 blocks.
-    LogFull,
+    LogFull = 21,
     // 22: link log: the file is not whole blocks, or has more than 65,536.
-    NotBlocks,
+    NotBlocks = 22,
 }
 
 // The refusal's number in the paper's table.
+#[tactic(auto, unfolding(crate::specs::Refusals::refusal_number))]
 pub fn refusal_number(refusal: Refusal) -> u8
     ensures { result ≡ refusal_number refusal }
 {
-    match refusal {
-        Refusal::BadCall => 1,
-        Refusal::CutShort => 2,
-        Refusal::TooLong => 3,
-        Refusal::NoCommand => 4,
-        Refusal::BadField => 5,
-        Refusal::BadList => 6,
-        Refusal::WrongTime => 7,
-        Refusal::NotOpen => 8,
-        Refusal::AlreadyOpen => 9,
-        Refusal::StillJoining => 10,
-        Refusal::OverLimit => 11,
-        Refusal::PastLength => 12,
-        Refusal::IsSpoiled => 13,
-        Refusal::NoStart => 14,
-        Refusal::AllTaken => 15,
-        Refusal::NotAwaited => 16,
-        Refusal::NotSets => 17,
-        Refusal::Loose => 18,
-        Refusal::NoPartner => 19,
-        Refusal::NoRoom => 20,
-        Refusal::LogFull => 21,
-        Refusal::NotBlocks => 22,
-    }
+    refusal as u8
 }

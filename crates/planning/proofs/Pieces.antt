@@ -1,6 +1,7 @@
 -- However a file is cut into reads, what is printed is its report.
 -- Assumes nothing.
 use Rattle.std.proofs.Common.{◌≡◌, ℕ, ◌+◌, ◌*◌, ◌/◌, ◌%◌, ◌<◌, ◌≤◌, min, true, false, not, ◌||◌, eqb, ltb, List, [], ◌∷◌, ◌++◌, length, take, sym, refl, ap, ◌∙◌, ⊎_elim, append_assoc, append-nil, arith, length-drop, take_all, ltb-true, le-ltb, lt-ltb}
+use Rattle.std.specs.Prelude.{Err}
 use mathlib.Core.Bool.{or-true, or-false}
 use lib.ListN.{length-map}
 use Rattle.paper.specs.Sizes.{SETS_MAX}
@@ -12,7 +13,6 @@ use Rattle.records.proofs.Framings.{records_none, records_first}
 use Rattle.records.proofs.Rests.{by_records, size_none, size_first, size_within, rest_none, rest_has_none, rest_more}
 use Rattle.records.proofs.Items.{over_both, items_more}
 use Rattle.planning.specs.declared.Course.{Course}
-use Rattle.planning.specs.declared.Last.TheVariants.{Refused}
 use Rattle.planning.specs.Sets.{SET, set_extent, charges_in, sets_of}
 use Rattle.planning.specs.Report.{sums_of, is_refused, last_of, report}
 use Rattle.planning.specs.Course.{run_of, run_after, start_course, is_over, ending_of, end_line, printed}
@@ -39,7 +39,7 @@ more_behind c input more =
     ) (append_assoc here.text (from here.course rest).text _)
 
 -- once there are too many sets, no more is printed but the refusal
-over_refused : (c : Course) (left : ℕ) → SETS_MAX < c.sets → ending_of c left ≡ Refused NotSets
+over_refused : (c : Course) (left : ℕ) → SETS_MAX < c.sets → ending_of c left ≡ Err NotSets
 unfolding ending_of is_over
 over_refused c left over = rw (lt-ltb SETS_MAX c.sets over)
 
@@ -72,7 +72,7 @@ in_pieces c left (piece ∷ pieces) none =
 -- ---- the report
 
 -- sets have eight bytes each
-size_sets : (input : List ℕ) → size_of (records_of set_extent input) ≡ SET * length (records_of set_extent input)
+pub size_sets : (input : List ℕ) → size_of (records_of set_extent input) ≡ SET * length (records_of set_extent input)
 size_sets =
     by_records set_framing (λ input. size_of (records_of set_extent input) ≡ SET * length (records_of set_extent input))
     (λ input no. rw (size_none set_extent input no, records_none set_extent input no) refl)
@@ -86,7 +86,7 @@ size_sets =
         (lt_or_le (length input) SET)
 
 -- behind whole sets fewer than eight bytes are left
-left_over : (file : List ℕ) → (length file ≡ SET * length (records_of set_extent file) + length (rest_of set_extent file)) × (length (rest_of set_extent file) < SET)
+pub left_over : (file : List ℕ) → (length file ≡ SET * length (records_of set_extent file) + length (rest_of set_extent file)) × (length (rest_of set_extent file) < SET)
 unfolding rest_of
 left_over file =
     let size = size_of (records_of set_extent file) in (

@@ -1,6 +1,7 @@
 -- The report on its way: set by set, and over a file in pieces, as reads give it.
-use Rattle.std.specs.Prelude.{ℕ, ◌+◌, ◌*◌, ◌%◌, ◌^◌, Bool, cond, not, ◌||◌, List, [], ◌∷◌, ◌++◌, length, ◌==◌, nat_lt}
+use Rattle.std.specs.Prelude.{ℕ, ◌+◌, ◌*◌, ◌%◌, ◌^◌, Bool, cond, not, ◌||◌, List, [], ◌∷◌, ◌++◌, length, ◌==◌, nat_lt, Result, Err, Ok}
 use Rattle.paper.specs.Sizes.{SETS_MAX}
+use Rattle.paper.specs.declared.Refusal.{Refusal}
 use Rattle.paper.specs.declared.Refusal.TheVariants.{NotSets}
 use Rattle.reading.specs.declared.Charges.{Charges}
 use Rattle.records.specs.Items.{Stood, stood_by}
@@ -9,8 +10,6 @@ use Rattle.charges.specs.Formula.{shares_of}
 use Rattle.planning.specs.declared.Sums.{Sums}
 use Rattle.planning.specs.declared.Course.{Course}
 use Rattle.planning.specs.declared.Stand.{Stand}
-use Rattle.planning.specs.declared.Last.{Last}
-use Rattle.planning.specs.declared.Last.TheVariants.{Added, Refused}
 use Rattle.planning.specs.Sets.{set_extent, charges_in}
 use Rattle.planning.specs.Lines.{FOUR_MAX, shares_line, last_line}
 use Rattle.planning.specs.Report.{no_sums}
@@ -72,8 +71,8 @@ unfoldable pub is_over : Course → Bool
 is_over c = nat_lt SETS_MAX c.sets
 
 -- what it ends with, where so many bytes are left
-unfoldable pub ending_of : Course → ℕ → Last
-ending_of c left = cond (is_over c || not (left == 0)) (Refused NotSets) (Added c.sums)
+unfoldable pub ending_of : Course → ℕ → Result Sums Refusal
+ending_of c left = cond (is_over c || not (left == 0)) (Err NotSets) (Ok c.sums)
 
 abbrev pub end_line : Course → List ℕ → List ℕ
 end_line c left = last_line (ending_of c (length left))

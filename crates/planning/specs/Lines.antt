@@ -1,11 +1,11 @@
 -- The lines of the report: four numbers for a set, and behind them the sums or the refusal.
-use Rattle.std.specs.Prelude.{ℕ, ◌+◌, ◌*◌, List, [], ◌∷◌, ◌++◌}
+use Rattle.std.specs.Prelude.{ℕ, ◌+◌, ◌*◌, List, [], ◌∷◌, ◌++◌, Result, Err, Ok}
+use Rattle.paper.specs.declared.Refusal.{Refusal}
 use Rattle.paper.specs.Refusals.{refusal_number}
 use Rattle.lines.specs.Decimal.{FIELD_MAX, field}
 use Rattle.lines.specs.Lines.{SPACE, LF, refused_line}
 use Rattle.charges.specs.declared.Shares.{Shares}
-use Rattle.planning.specs.declared.Last.{Last}
-use Rattle.planning.specs.declared.Last.TheVariants.{Added, Refused}
+use Rattle.planning.specs.declared.Sums.{Sums}
 
 -- the most bytes of a line of four numbers
 abbrev pub FOUR_MAX : ℕ
@@ -28,6 +28,6 @@ abbrev pub LAST_MAX : ℕ
 LAST_MAX = 5 + FOUR_MAX
 
 -- "then each class's exact sum", or a refusal "in place of the sums"
-unfoldable pub last_line : Last → List ℕ
-last_line (Added sums) = SUMS ++ four_line sums.class0 sums.class1 sums.class2 sums.class3
-last_line (Refused why) = refused_line (refusal_number why)
+unfoldable pub last_line : Result Sums Refusal → List ℕ
+last_line (Ok sums) = SUMS ++ four_line sums.class0 sums.class1 sums.class2 sums.class3
+last_line (Err why) = refused_line (refusal_number why)

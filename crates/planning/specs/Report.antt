@@ -1,14 +1,13 @@
 -- "A report program reads a file of eight-byte sets and prints each set's shares, then each class's exact sum. Refusals: 17, length not a
 -- multiple of eight or more than 65,536 sets, printed after the whole sets up to there and in place of the sums."
-use Rattle.std.specs.Prelude.{ℕ, ◌+◌, ◌%◌, Bool, cond, not, ◌||◌, List, [], ◌∷◌, ◌++◌, length, take, ◌==◌, nat_lt}
+use Rattle.std.specs.Prelude.{ℕ, ◌+◌, ◌%◌, Bool, cond, not, ◌||◌, List, [], ◌∷◌, ◌++◌, length, take, ◌==◌, nat_lt, Result, Err, Ok}
 use Rattle.paper.specs.Sizes.{SETS_MAX}
+use Rattle.paper.specs.declared.Refusal.{Refusal}
 use Rattle.paper.specs.declared.Refusal.TheVariants.{NotSets}
 use Rattle.reading.specs.declared.Charges.{Charges}
 use Rattle.charges.specs.declared.Shares.{Shares}
 use Rattle.charges.specs.Formula.{shares_of}
 use Rattle.planning.specs.declared.Sums.{Sums}
-use Rattle.planning.specs.declared.Last.{Last}
-use Rattle.planning.specs.declared.Last.TheVariants.{Added, Refused}
 use Rattle.planning.specs.Sets.{SET, sets_of}
 use Rattle.planning.specs.Lines.{shares_line, last_line}
 
@@ -38,8 +37,8 @@ sums_of (set ∷ sets) = plus (sums_of sets) (shares_of set)
 unfoldable pub is_refused : List ℕ → Bool
 is_refused file = not (length file % SET == 0) || nat_lt SETS_MAX (length (sets_of file))
 
-unfoldable pub last_of : List ℕ → Last
-last_of file = cond (is_refused file) (Refused NotSets) (Added (sums_of (sets_of file)))
+unfoldable pub last_of : List ℕ → Result Sums Refusal
+last_of file = cond (is_refused file) (Err NotSets) (Ok (sums_of (sets_of file)))
 
 -- "printed after the whole sets up to there and in place of the sums"
 unfoldable pub report : List ℕ → List ℕ

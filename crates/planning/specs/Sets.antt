@@ -1,7 +1,7 @@
 -- "A file of eight-byte sets": four charges of two bytes each, little-endian.
 use Rattle.std.specs.Prelude.{ℕ, cond, List, length, nat_lt}
-use Rattle.numbers.specs.Numbers.{value_at}
 use Rattle.reading.specs.declared.Charges.{Charges}
+use Rattle.reading.specs.Reading.{charges_at}
 use Rattle.records.specs.Items.{items_in}
 
 abbrev pub SET : ℕ
@@ -12,7 +12,7 @@ unfoldable pub set_extent : List ℕ → ℕ
 set_extent input = cond (nat_lt (length input) SET) 0 SET
 
 unfoldable pub charges_in : List ℕ → Charges
-charges_in set = record { class0 = value_at set 0 2; class1 = value_at set 2 2; class2 = value_at set 4 2; class3 = value_at set 6 2 }
+charges_in set = charges_at set 0
 
 -- the whole sets of a file
 abbrev pub sets_of : List ℕ → List Charges

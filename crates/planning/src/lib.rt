@@ -10,15 +10,15 @@
 ghost use Rattle.std.specs.Prelude.{◌≡◌, ◌*◌, ◌<◌, ◌≤◌, length};
 ghost use Rattle.paper.specs.Sizes.{SETS_MAX};
 ghost use Rattle.lists.specs.Bytes.{laid};
+ghost use Rattle.lines.specs.Pen.{Writes};
 ghost use Rattle.records.specs.Walks.{records_of, size_of, rest_of};
 ghost use Rattle.planning.specs.Sets.{SET, set_extent, charges_in};
 ghost use Rattle.planning.specs.Lines.{FOUR_MAX, LAST_MAX, four_line, last_line};
 ghost use Rattle.planning.specs.Course.{TEXT_MAX, added, course_after, line_for, start_course, turned_to, stand_of, is_over, ending_of};
 
 use charges::Shares;
-use lines::FIELD_MAX;
+use lines::{FIELD_MAX, Pen};
 use paper::{Refusal, SETS_MAX};
-use reading::Charges;
 
 // The bytes of a set: four charges of two bytes, little-endian.
 pub const SET: usize = 8;
@@ -29,7 +29,7 @@ pub const FOUR_MAX: usize = 4 * FIELD_MAX;
 // The most bytes of the last line: `sums ` and four numbers.
 pub const LAST_MAX: usize = 5 + FOUR_MAX;
 
-// Each class's shares, added up.
+// Each class's shares, added up. A field for a class, as the shares have it.
 #[derive(Clone, Copy)]
 pub struct Sums {
     pub class0: u64,
@@ -54,22 +54,6 @@ pub struct Stand {
     pub laid: usize,
 }
 
-// What a report ends with.
-#[derive(Clone, Copy)]
-pub enum Last {
-    // Each class's sum.
-    Added(Sums),
-    // 17, in place of the sums.
-    Refused(Refusal),
-}
-
-// What one set gives: the course, and its line's length.
-#[derive(Clone, Copy)]
-struct Stepped {
-    course: Course,
-    laid: usize,
-}
-
 // What a walk through sets gives: the course, how many bytes of the input it took, and how many bytes of text it laid.
 #[derive(Clone, Copy)]
 struct Walked {
@@ -78,86 +62,63 @@ struct Walked {
     laid: usize,
 }
 
-// The charges of a set.
-fn charges_in(set: &[u8]) -> Charges
-    ensures { result ≡ charges_in set.now }
-{
-    Charges {
-        class0: numbers::short_at(set, 0),
-        class1: numbers::short_at(set, 2),
-        class2: numbers::short_at(set, 4),
-        class3: numbers::short_at(set, 6),
-    }
-}
-
 // The sums, with a set's shares.
+#[tactic(auto, unfolding(crate::specs::Course::added))]
 fn add(sums: Sums, shares: Shares) -> Sums
     ensures { result ≡ added sums shares }
 {
     Sums {
-        class0: std::num::wrapping_add_u64(sums.class0, shares.class0 as u64),
-        class1: std::num::wrapping_add_u64(sums.class1, shares.class1 as u64),
-        class2: std::num::wrapping_add_u64(sums.class2, shares.class2 as u64),
-        class3: std::num::wrapping_add_u64(sums.class3, shares.class3 as u64),
+        class0: sums.class0.wrapping_add(u64::from(shares.class0)),
+        class1: sums.class1.wrapping_add(u64::from(shares.class1)),
+        class2: sums.class2.wrapping_add(u64::from(shares.class2)),
+        class3: sums.class3.wrapping_add(u64::from(shares.class3)),
     }
 }
 
-// The line of four numbers, from a place on. Answers its length.
-fn four(out: &mut [u8], at: usize, a: u64, b: u64, c: u64, d: u64) -> usize
-    requires { at ≤ TEXT_MAX }
-    ensures value { (result ≡ length (four_line a b c d)) × (result ≤ FOUR_MAX) }
-    ensures out_after { out.new ≡ laid out.old at (four_line a b c d) }
+// The line of four numbers.
+fn four(pen: &mut Pen, a: u64, b: u64, c: u64, d: u64)
+    requires { pen.old.at ≤ TEXT_MAX }
+    ensures { Writes pen.old pen.new (four_line a b c d) FOUR_MAX }
 {
-    let first = lines::field(out, at, a, b' ');
-    let second = first + lines::field(out, at + first, b, b' ');
-    let third = second + lines::field(out, at + second, c, b' ');
-    third + lines::field(out, at + third, d, b'\n')
+    pen.field(a, b' ');
+    pen.field(b, b' ');
+    pen.field(c, b' ');
+    pen.field(d, b'\n');
 }
 
-// One set within the limit: its line from a place on, and its shares in the sums.
-fn share(course: Course, set: &[u8], out: &mut [u8], at: usize) -> Stepped
-    requires { (course.sets < SETS_MAX) × (at ≤ TEXT_MAX) }
-    ensures course_value { (result.course ≡ course_after course (charges_in set.now))
-        × ((result.laid ≡ length (line_for course (charges_in set.now))) × (result.laid ≤ FOUR_MAX)) }
-    ensures out_after { out.new ≡ laid out.old at (line_for course (charges_in set.now)) }
+// One set within the limit: its line, and its shares in the sums.
+fn share(course: Course, set: &[u8], pen: &mut Pen) -> Course
+    requires { (course.sets < SETS_MAX) × (pen.old.at ≤ TEXT_MAX) }
+    ensures course_value { result ≡ course_after course (charges_in set.now) }
+    ensures line { Writes pen.old pen.new (line_for course (charges_in set.now)) FOUR_MAX }
 {
-    let shares = charges::shares_of(charges_in(set));
-    let laid = four(
-        out,
-        at,
-        shares.class0 as u64,
-        shares.class1 as u64,
-        shares.class2 as u64,
-        shares.class3 as u64,
+    let shares = charges::shares_of(reading::charges_at(set, 0));
+    four(
+        pen,
+        u64::from(shares.class0),
+        u64::from(shares.class1),
+        u64::from(shares.class2),
+        u64::from(shares.class3),
     );
-    let sums = course.sums;
-    Stepped {
-        course: Course {
-            sets: course.sets + 1,
-            sums: add(sums, shares),
-        },
-        laid,
+    Course {
+        sets: course.sets + 1,
+        sums: add(course.sums, shares),
     }
 }
 
 // One set. Behind the limit it has no line and isn't added.
-fn step(course: Course, set: &[u8], out: &mut [u8], at: usize) -> Stepped
-    requires { at ≤ TEXT_MAX }
-    ensures course_value { (result.course ≡ course_after course (charges_in set.now))
-        × ((result.laid ≡ length (line_for course (charges_in set.now))) × (result.laid ≤ FOUR_MAX)) }
-    ensures out_after { out.new ≡ laid out.old at (line_for course (charges_in set.now)) }
+fn step(course: Course, set: &[u8], pen: &mut Pen) -> Course
+    requires { pen.old.at ≤ TEXT_MAX }
+    ensures course_value { result ≡ course_after course (charges_in set.now) }
+    ensures line { Writes pen.old pen.new (line_for course (charges_in set.now)) FOUR_MAX }
 {
     if SETS_MAX <= course.sets {
-        let sums = course.sums;
-        return Stepped {
-            course: Course {
-                sets: SETS_MAX + 1,
-                sums,
-            },
-            laid: 0,
+        return Course {
+            sets: SETS_MAX + 1,
+            sums: course.sums,
         };
     }
-    share(course, set, out, at)
+    share(course, set, pen)
 }
 
 // Walks through the whole sets at the front of the input, and lays their lines one behind the other.
@@ -168,19 +129,14 @@ fn walk(course: Course, input: &[u8], out: &mut [u8]) -> Walked
     ensures out_after { out.new ≡ laid out.old 0 (turned_to course input.now).kept.text }
 {
     let mut next = course;
-    let mut at = 0;
-    let mut used = 0;
-    while SET <= input.len() - at {
-        let end = at + SET;
-        let stepped = step(next, &input[at..end], out, used);
-        next = stepped.course;
-        used += stepped.laid;
-        at = end;
+    let mut pen = Pen { out, at: 0 };
+    for set in input.chunks_exact(SET) {
+        next = step(next, set, &mut pen);
     }
     Walked {
         course: next,
-        taken: at,
-        laid: used,
+        taken: input.len() / SET * SET,
+        laid: pen.at,
     }
 }
 
@@ -212,56 +168,50 @@ pub fn turn(course: Course, input: &mut [u8], out: &mut [u8]) -> Stand
     ensures input_after { input.new ≡ laid input.old 0 (rest_of set_extent input.old) }
     ensures out_after { out.new ≡ laid out.old 0 (turned_to course input.old).kept.text }
 {
-    let walked = walk(course, input, out);
-    let taken = walked.taken;
+    let Walked {
+        course,
+        taken,
+        laid,
+    } = walk(course, input, out);
     lists::to_front(input, taken);
-    let course = walked.course;
     Stand {
         course,
         had: input.len() - taken,
-        laid: walked.laid,
+        laid,
     }
 }
 
 // Whether the file has more sets than a file may have.
+#[tactic(auto, unfolding(crate::specs::Course::is_over, paper::specs::Sizes::SETS_MAX))]
 pub fn is_over(course: Course) -> bool
     ensures { result ≡ is_over course }
 {
     SETS_MAX < course.sets
 }
 
-// What the report ends with, where so many bytes are left behind the whole sets.
-pub fn ending(course: Course, had: usize) -> Last
+// What the report ends with, where so many bytes are left behind the whole sets: each class's sum, or 17 in place of the sums.
+#[tactic(auto, using(std::proofs::lemmas::Bool::Decides::nat_tests), unfolding(crate::specs::Course::ending_of))]
+pub fn ending(course: Course, had: usize) -> Result<Sums, Refusal>
     ensures { result ≡ ending_of course had }
 {
-    if is_over(course) {
-        return Last::Refused(Refusal::NotSets);
+    if is_over(course) || 0 < had {
+        return Err(Refusal::NotSets);
     }
-    if 0 < had {
-        return Last::Refused(Refusal::NotSets);
-    }
-    let sums = course.sums;
-    Last::Added(sums)
+    Ok(course.sums)
 }
 
 // The line that the report ends with, at the front of the buffer. Answers its length.
-pub fn say(out: &mut [u8], last: Last) -> usize
+pub fn say(out: &mut [u8], last: Result<Sums, Refusal>) -> usize
     ensures value { (result ≡ length (last_line last)) × (result ≤ LAST_MAX) }
     ensures out_after { out.new ≡ laid out.old 0 (last_line last) }
 {
+    let mut pen = Pen { out, at: 0 };
     match last {
-        Last::Added(sums) => {
-            let worded = lines::text(out, 0, b"sums ");
-            worded
-                + four(
-                    out,
-                    worded,
-                    sums.class0,
-                    sums.class1,
-                    sums.class2,
-                    sums.class3,
-                )
+        Ok(sums) => {
+            pen.text(b"sums ");
+            four(&mut pen, sums.class0, sums.class1, sums.class2, sums.class3);
         }
-        Last::Refused(why) => lines::refused(out, 0, paper::refusal_number(why)),
+        Err(why) => pen.refused(paper::refusal_number(why)),
     }
+    pen.at
 }

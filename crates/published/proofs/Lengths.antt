@@ -6,8 +6,11 @@ use mathlib.Core.Bool.{Bool, true, false, cond, not}
 use mathlib.Core.List.{List, [], ◌∷◌, ◌++◌, append_assoc, append-nil}
 use Prim.Native.Nat.{ℕ, zero, suc, ◌+◌, ◌*◌, ◌≤◌, ◌<◌}
 use native.Mathlib.Omega.{arith}
-use borrow.Author.Tests.{eqb-true, ne_eqb}
+use borrow.Author.Tests.{eqb-true}
 use lib.Dec.{eqb, ltb}
+use Rattle.published.specs.declared.NotCompared.{NotCompared}
+use Rattle.published.specs.declared.NotCompared.TheVariants.{Wrong, NoRoom}
+use Rattle.std.specs.Prelude.{Option, None, Some, is_some, Result, Err}
 use lib.ListN.{length, take, drop, get_or, length-drop, take-append-drop}
 use lib.Seq.{length-take-le, take_all}
 use Rattle.paper.specs.Rows.{refuse}
@@ -21,28 +24,24 @@ use Rattle.listeners.specs.Listeners.{same_bytes}
 use Rattle.listeners.proofs.Matches.{same_equal}
 use Rattle.lines.specs.Lines.{SPACE}
 use Rattle.codepage.specs.Points.{BYTES}
-use Rattle.published.specs.declared.Claim.{Claim}
-use Rattle.published.specs.declared.Claim.TheVariants.{Undefined, NotSuch}
-use Rattle.published.specs.Claims.{UNDEFINED, pair_in, is_pair, point_claim, four_in, claim_behind, claim_in, is_such}
-use Rattle.published.specs.declared.Compared.{Compared}
-use Rattle.published.specs.declared.Compared.TheVariants.{Wrong, NoRoom}
-use Rattle.published.specs.Comparing.{wrong_from, FILE_MAX, COMPARED_MAX, text_of, compared_for, buffer_by, compared_in}
+use Rattle.published.specs.Claims.{UNDEFINED, pair_in, is_pair, point_claim, four_in, claim_behind, claim_in}
+use Rattle.published.specs.Comparing.{wrong_from, FILE_MAX, COMPARED_MAX, text_of, compared_by, compared_for, buffer_by, compared_in}
 use Rattle.published.proofs.Files.{none_missing, none_wrong, one_more, not_such, too_many}
 
 -- ---- a line
 
 -- a guard that was passed
-passed : (t : Bool) (claim : Claim) → is_such (refuse NotSuch t claim) ≡ true → (t ≡ false) × (is_such claim ≡ true)
+passed : (t : Bool) (claim : Option (Option ℕ)) → is_some (refuse None t claim) ≡ true → (t ≡ false) × (is_some claim ≡ true)
 passed true claim e = absurd (true_not_false (sym e))
 passed false claim e = (refl, e)
 
 -- four digits or `undefined`
-behind_short : (rest : List ℕ) → is_such (claim_behind rest) ≡ true → length rest ≤ 9
+behind_short : (rest : List ℕ) → is_some (claim_behind rest) ≡ true → length rest ≤ 9
 unfolding claim_behind
 behind_short rest e = go (same_bytes rest UNDEFINED) refl e
   where
     go : (t : Bool) → same_bytes rest UNDEFINED ≡ t
-        → is_such (cond t Undefined (refuse NotSuch (not (eqb (length rest) 4))
+        → is_some (cond t (Some None) (refuse None (not (eqb (length rest) 4))
         (point_claim (four_in (get_or rest 0 0) (get_or rest 1 0) (get_or rest 2 0) (get_or rest 3 0))))) ≡ true → length rest ≤ 9
     go true is e = omega (arith, ap length (same_equal rest UNDEFINED is))
     go false off e = four (eqb (length rest) 4) refl (passed (not (eqb (length rest) 4)) _ e).0
@@ -51,7 +50,7 @@ behind_short rest e = go (same_bytes rest UNDEFINED) refl e
         four true is e = omega (arith, eqb-true (length rest) 4 is)
         four false is e = absurd (true_not_false e)
 
-line_short : (k : ℕ) (line : List ℕ) → is_such (claim_in k line) ≡ true → length line ≤ 12
+line_short : (k : ℕ) (line : List ℕ) → is_some (claim_in k line) ≡ true → length line ≤ 12
 unfolding claim_in
 line_short k line e =
     let long = passed (ltb (length line) 3) _ e in
@@ -76,14 +75,14 @@ text_short (b ∷ text) = go (is_byte LF b) (lines_in text) (text_short text)
     go false [] h = omega arith
     go false (line ∷ lines) h = omega arith
 
-lines_short : (k : ℕ) (lines : List (List ℕ)) → wrong_from k lines ≡ 0 → total lines + 13 * k ≤ FILE_MAX
+lines_short : (k : ℕ) (lines : List (List ℕ)) → wrong_from k lines ≡ None → total lines + 13 * k ≤ FILE_MAX
 unfolding wrong_from FILE_MAX
 lines_short k [] good = omega (arith, none_missing k good)
 lines_short k (line ∷ lines) good =
     let h = none_wrong k line lines good in
     omega (arith, line_short k line h.1.0, lines_short (suc k) lines h.1.1)
 
-pub file_short : (file : List ℕ) → wrong_from 0 (lines_in file) ≡ 0 → length file ≤ FILE_MAX
+pub file_short : (file : List ℕ) → wrong_from 0 (lines_in file) ≡ None → length file ≤ FILE_MAX
 file_short file good = omega (arith, text_short file, lines_short 0 (lines_in file) good)
 
 -- ---- the front of a file
@@ -114,20 +113,20 @@ first_long (b ∷ front) behind h = go (is_byte LF b) h (first_long front behind
     go false k ih = in_first_law b (length front) (lines_in (front ++ behind)) (ih (omega arith))
 
 -- a line that is too long isn't as it should be
-long_wrong : (k : ℕ) (lines : List (List ℕ)) → k < BYTES → First 13 lines → wrong_from k lines ≡ k + 1
+long_wrong : (k : ℕ) (lines : List (List ℕ)) → k < BYTES → First 13 lines → wrong_from k lines ≡ Some (k + 1)
 long_wrong k [] h long = absurd (omega arith)
-long_wrong k (line ∷ lines) h long = not_such k line lines h (go (is_such (claim_in k line)) refl)
+long_wrong k (line ∷ lines) h long = not_such k line lines h (go (is_some (claim_in k line)) refl)
   where
-    go : (t : Bool) → is_such (claim_in k line) ≡ t → t ≡ false
+    go : (t : Bool) → is_some (claim_in k line) ≡ t → t ≡ false
     go true is = absurd (omega (arith, line_short k line is))
     go false off = refl
 
 -- and no line is behind that of the last byte
-past_wrong : (k b : ℕ) (text : List ℕ) → BYTES ≤ k → wrong_from k (lines_in (b ∷ text)) ≡ k + 1
+past_wrong : (k b : ℕ) (text : List ℕ) → BYTES ≤ k → wrong_from k (lines_in (b ∷ text)) ≡ Some (k + 1)
 unfolding lines_in
 past_wrong k b text h = go (is_byte LF b) (lines_in text)
   where
-    go : (t : Bool) (lines : List (List ℕ)) → wrong_from k (cond t ([] ∷ lines) (in_first b lines)) ≡ k + 1
+    go : (t : Bool) (lines : List (List ℕ)) → wrong_from k (cond t ([] ∷ lines) (in_first b lines)) ≡ Some (k + 1)
     go true lines = too_many k _ _ h
     go false [] = too_many k _ _ h
     go false (line ∷ lines) = too_many k _ _ h
@@ -141,13 +140,13 @@ module _ (k : ℕ) (front behind : List ℕ) (due : k < BYTES) (long : 13 ≤ le
       least [] h = omega arith
       least (line ∷ lines) h = omega arith
 
-      wrong : (more : List ℕ) → wrong_from k (lines_in (front ++ more)) ≡ k + 1
+      wrong : (more : List ℕ) → wrong_from k (lines_in (front ++ more)) ≡ Some (k + 1)
       wrong more = long_wrong k (lines_in (front ++ more)) due (least (lines_in (front ++ more)) (first_long front more unended))
 
   ended_tells : place (is_byte LF) front < length front
       → ((rest : List ℕ) → length front ≤ length rest + 13 → wrong_from (k + 1) (lines_in (rest ++ behind)) ≡ wrong_from (k + 1) (lines_in rest))
       → wrong_from k (lines_in (front ++ behind)) ≡ wrong_from k (lines_in front)
-  ended_tells ends behind-tells = rw (whole, alone) (go (is_such (claim_in k line)) refl)
+  ended_tells ends behind-tells = rw (whole, alone) (go (is_some (claim_in k line)) refl)
     where
       n : ℕ
       n = place (is_byte LF) front
@@ -169,7 +168,7 @@ module _ (k : ℕ) (front behind : List ℕ) (due : k < BYTES) (long : 13 ≤ le
       alone : lines_in front ≡ line ∷ lines_in rest
       alone = ap lines_in (cut_at_law LF front ends) ∙ lines_front line rest clean
 
-      go : (t : Bool) → is_such (claim_in k line) ≡ t → wrong_from k (line ∷ lines_in (rest ++ behind)) ≡ wrong_from k (line ∷ lines_in rest)
+      go : (t : Bool) → is_some (claim_in k line) ≡ t → wrong_from k (line ∷ lines_in (rest ++ behind)) ≡ wrong_from k (line ∷ lines_in rest)
       go true is =
           let left : length front ≤ length rest + 13 =
           omega (arith, line_short k line is, length-take-le n front (omega arith), length-drop (suc n) front) in
@@ -194,17 +193,23 @@ unfolding FILE_MAX
 tells front behind h = front_tells BYTES 0 front behind refl (omega arith)
 
 -- what comes of a file by its wrong line
-wrongly : ℕ → List ℕ → Compared
-wrongly n out = refuse NoRoom (ltb (length out) COMPARED_MAX) (Wrong n)
+wrongly : Option ℕ → List ℕ → Result ℕ NotCompared
+wrongly line out = refuse (Err NoRoom) (ltb (length out) COMPARED_MAX) (compared_by line [])
 
-as_wrong : (file out : List ℕ) → (wrong_from 0 (lines_in file) ≡ 0 → ⊥)
+as_wrong : (file out : List ℕ) → (wrong_from 0 (lines_in file) ≡ None → ⊥)
     → (compared_for file out ≡ wrongly (wrong_from 0 (lines_in file)) out) × (compared_in file out ≡ out)
 unfolding compared_for compared_in wrongly
-as_wrong file out off = rw (ne_eqb (wrong_from 0 (lines_in file)) 0 off) (refl, go (ltb (length out) COMPARED_MAX))
+as_wrong file out off = go (wrong_from 0 (lines_in file)) refl off
   where
-    go : (t : Bool) → buffer_by (refuse NoRoom t (Wrong (wrong_from 0 (lines_in file)))) (text_of (lines_in file)) out ≡ out
-    go true = refl
-    go false = refl
+    kept : (t : Bool) (line : ℕ) → buffer_by (refuse (Err NoRoom) t (Err (Wrong line))) (text_of (lines_in file)) out ≡ out
+    kept true line = refl
+    kept false line = refl
+
+    go : (r : Option ℕ) → wrong_from 0 (lines_in file) ≡ r → (r ≡ None → ⊥)
+        → (refuse (Err NoRoom) (ltb (length out) COMPARED_MAX) (compared_by r (text_of (lines_in file))) ≡ wrongly r out)
+        × (buffer_by (refuse (Err NoRoom) (ltb (length out) COMPARED_MAX) (compared_by r (text_of (lines_in file)))) (text_of (lines_in file)) out ≡ out)
+    go None e off = absurd (off refl)
+    go (Some line) e off = (refl, kept (ltb (length out) COMPARED_MAX) line)
 
 -- one byte more than the most tells as much as the whole file: what comes of it, and what stands in the buffer
 pub front_enough : (file out : List ℕ) → (compared_for (take (FILE_MAX + 1) file) out ≡ compared_for file out)
@@ -217,6 +222,6 @@ front_enough file out =
     let same = rw (take-append-drop (FILE_MAX + 1) file) at (tells front (drop (FILE_MAX + 1) file) (omega arith)) in
     let a = as_wrong front out (λ good. omega (arith, file_short front good)) in
     let b = as_wrong file out (λ good. omega (arith, file_short file good)) in
-    (a.0 ∙ ap (λ (n : ℕ). wrongly n out) (sym same) ∙ sym b.0, a.1 ∙ sym b.1))
+    (a.0 ∙ ap (λ r. wrongly r out) (sym same) ∙ sym b.0, a.1 ∙ sym b.1))
     (λ (short : length file ≤ FILE_MAX + 1). rw (take_all (FILE_MAX + 1) file short) (refl, refl))
     (lt_or_le (FILE_MAX + 1) (length file))

@@ -1,9 +1,9 @@
 -- `256 agree` is printed exactly for our table.
 -- Assumes nothing.
+use Rattle.std.specs.Prelude.{Option, None, Some, is_some}
 use mathlib.Core.Path.{◌≡◌, refl, sym, ap, ◌∙◌}
 use mathlib.Core.Bool.{Bool, true, false, cond, not, ◌&&◌}
 use mathlib.Core.List.{List, [], ◌∷◌, ◌++◌}
-use mathlib.Core.Option.{none, some}
 use Prim.Native.Nat.{ℕ, zero, suc, ◌+◌}
 use native.Mathlib.Omega.{arith}
 use borrow.Author.Tests.{eq-eqb, eqb-true}
@@ -14,9 +14,7 @@ use Rattle.lists.proofs.Cases.{true_not_false}
 use Rattle.lines.specs.Hex.{hex_byte}
 use Rattle.lines.specs.Lines.{SPACE}
 use Rattle.codepage.specs.Points.{NONE, BYTES, point_of, point_for}
-use Rattle.published.specs.declared.Claim.{Claim}
-use Rattle.published.specs.declared.Claim.TheVariants.{Point, Undefined, NotSuch}
-use Rattle.published.specs.Claims.{claim_in, is_such, agrees}
+use Rattle.published.specs.Claims.{claim_in, agrees}
 use Rattle.published.specs.Comparing.{wrong_from, OURS, PUBLISHED, our_text, their_text, difference_of, differences_from, AGREE, text_of}
 use Rattle.published.specs.Promises.{told, table_in, our_table}
 use Rattle.published.proofs.Files.{none_missing, none_wrong, all_agree, some_differ}
@@ -24,32 +22,32 @@ use Rattle.published.proofs.Files.{none_missing, none_wrong, all_agree, some_dif
 -- ---- a line
 
 -- a claim agrees exactly if it tells what our table has
-agree_told : (claim : Claim) (byte : ℕ) → is_such claim ≡ true → agrees claim byte ≡ true → told claim ≡ point_for byte
+agree_told : (claim : Option (Option ℕ)) (byte : ℕ) → is_some claim ≡ true → agrees claim byte ≡ true → told claim ≡ point_for byte
 unfolding point_for
-agree_told (Point p) byte such is = go (eqb p NONE) refl is
+agree_told (Some (Some p)) byte such is = go (eqb p NONE) refl is
   where
-    go : (t : Bool) → eqb p NONE ≡ t → (not t && eqb p (point_of byte)) ≡ true → some p ≡ cond (eqb (point_of byte) NONE) none (some (point_of byte))
+    go : (t : Bool) → eqb p NONE ≡ t → (not t && eqb p (point_of byte)) ≡ true → Some p ≡ cond (eqb (point_of byte) NONE) None (Some (point_of byte))
     go true e is = absurd (true_not_false (sym is))
     go false e is = let same = eqb-true p (point_of byte) is in rw (← same, e)
-agree_told Undefined byte such is = rw is
-agree_told NotSuch byte such is = absurd (true_not_false (sym such))
+agree_told (Some None) byte such is = rw is
+agree_told None byte such is = absurd (true_not_false (sym such))
 
-told_agree : (claim : Claim) (byte : ℕ) → is_such claim ≡ true → told claim ≡ point_for byte → agrees claim byte ≡ true
+told_agree : (claim : Option (Option ℕ)) (byte : ℕ) → is_some claim ≡ true → told claim ≡ point_for byte → agrees claim byte ≡ true
 unfolding point_for
-told_agree (Point p) byte such is = go (eqb (point_of byte) NONE) refl is
+told_agree (Some (Some p)) byte such is = go (eqb (point_of byte) NONE) refl is
   where
-    go : (t : Bool) → eqb (point_of byte) NONE ≡ t → some p ≡ cond t none (some (point_of byte)) → (not (eqb p NONE) && eqb p (point_of byte)) ≡ true
+    go : (t : Bool) → eqb (point_of byte) NONE ≡ t → Some p ≡ cond t None (Some (point_of byte)) → (not (eqb p NONE) && eqb p (point_of byte)) ≡ true
     go true e is = cc
     go false e is = let same : p ≡ point_of byte = cc in rw (same, e, eq-eqb (point_of byte) (point_of byte) refl)
-told_agree Undefined byte such is = go (eqb (point_of byte) NONE) refl is
+told_agree (Some None) byte such is = go (eqb (point_of byte) NONE) refl is
   where
-    go : (t : Bool) → eqb (point_of byte) NONE ≡ t → none ≡ cond t none (some (point_of byte)) → eqb (point_of byte) NONE ≡ true
+    go : (t : Bool) → eqb (point_of byte) NONE ≡ t → None ≡ cond t None (Some (point_of byte)) → eqb (point_of byte) NONE ≡ true
     go true e is = e
     go false e is = cc
-told_agree NotSuch byte such is = absurd (true_not_false (sym such))
+told_agree None byte such is = absurd (true_not_false (sym such))
 
 -- it has no line exactly if it agrees
-module _ (byte : ℕ) (claim : Claim) where
+module _ (byte : ℕ) (claim : Option (Option ℕ)) where
   no_line : agrees claim byte ≡ true → difference_of byte claim ≡ []
   unfolding difference_of
   no_line is = rw is
@@ -70,7 +68,7 @@ module _ (byte : ℕ) (claim : Claim) where
 
 -- ---- the lines
 
-agree_all : (n k : ℕ) (lines : List (List ℕ)) → k + n ≡ BYTES → wrong_from k lines ≡ 0 → length (differences_from k lines) ≡ 0
+agree_all : (n k : ℕ) (lines : List (List ℕ)) → k + n ≡ BYTES → wrong_from k lines ≡ None → length (differences_from k lines) ≡ 0
     → table_in k lines ≡ our_table k n
 unfolding wrong_from differences_from table_in our_table
 agree_all zero k [] e good same = refl
@@ -82,7 +80,7 @@ agree_all (suc n) k (line ∷ lines) e good same =
     let is = none_agrees k (claim_in k line) (omega (arith, same, two)) in
     rw (agree_told (claim_in k line) k h.1.0 is, agree_all n (suc k) lines (omega arith) h.1.1 (omega (arith, same, two)))
 
-all_told : (n k : ℕ) (lines : List (List ℕ)) → wrong_from k lines ≡ 0 → table_in k lines ≡ our_table k n → length (differences_from k lines) ≡ 0
+all_told : (n k : ℕ) (lines : List (List ℕ)) → wrong_from k lines ≡ None → table_in k lines ≡ our_table k n → length (differences_from k lines) ≡ 0
 unfolding differences_from table_in our_table
 all_told n k [] good e = refl
 all_told zero k (line ∷ lines) good e = cc
@@ -93,7 +91,7 @@ all_told (suc n) k (line ∷ lines) good e =
     rw (no_line k (claim_in k line) (told_agree (claim_in k line) k h.1.0 first)) (all_told n (suc k) lines h.1.1 rest)
 
 -- the lines of bytes that differ aren't `256 agree`: behind a byte's two digits stands a space
-third : (byte : ℕ) (claim : Claim) (rest : List ℕ) → agrees claim byte ≡ false → get_or (difference_of byte claim ++ rest) 2 0 ≡ SPACE
+third : (byte : ℕ) (claim : Option (Option ℕ)) (rest : List ℕ) → agrees claim byte ≡ false → get_or (difference_of byte claim ++ rest) 2 0 ≡ SPACE
 unfolding hex_byte
 third byte claim rest off = rw (its_line byte claim off)
 
@@ -110,15 +108,15 @@ unlike k (line ∷ lines) e = go (agrees (claim_in k line) k) refl e (unlike (su
         let six : get_or (difference_of k (claim_in k line) ++ differences_from (suc k) lines) 2 0 ≡ 54 = ap (λ (l : List ℕ). get_or l 2 0) e in
         omega (arith, space, six)
 
-module _ (lines : List (List ℕ)) (good : wrong_from 0 lines ≡ 0) where
+module _ (lines : List (List ℕ)) (good : wrong_from 0 lines ≡ None) where
   pub only_ours : text_of lines ≡ AGREE → table_in 0 lines ≡ our_table 0 BYTES
   only_ours e = agree_all BYTES 0 lines refl good (go (eqb (length (differences_from 0 lines)) 0) refl)
     where
       go : (t : Bool) → eqb (length (differences_from 0 lines)) 0 ≡ t → length (differences_from 0 lines) ≡ 0
       go true is = eqb-true (length (differences_from 0 lines)) 0 is
       go false off =
-          let some = some_differ lines (λ z. true_not_false (sym (eq-eqb (length (differences_from 0 lines)) 0 z) ∙ off)) in
-          absurd (unlike 0 lines (sym some ∙ e))
+          let Some = some_differ lines (λ z. true_not_false (sym (eq-eqb (length (differences_from 0 lines)) 0 z) ∙ off)) in
+          absurd (unlike 0 lines (sym Some ∙ e))
 
   pub for_ours : table_in 0 lines ≡ our_table 0 BYTES → text_of lines ≡ AGREE
   for_ours e = all_agree lines (all_told BYTES 0 lines good e)

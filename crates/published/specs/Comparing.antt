@@ -1,5 +1,5 @@
 -- "A program compares the table with the published one": it prints `256 agree`, or a line for each byte that doesn't.
-use Rattle.std.specs.Prelude.{ℕ, suc, ◌+◌, ◌*◌, ◌/◌, ◌%◌, ◌≤◌, cond, ◌&&◌, List, [], ◌∷◌, ◌++◌, eqb, ltb, length}
+use Rattle.std.specs.Prelude.{ℕ, suc, ◌+◌, ◌*◌, ◌/◌, ◌%◌, cond, ◌&&◌, List, [], ◌∷◌, ◌++◌, eqb, ltb, length, Option, None, Some, is_some, Result, Ok, Err}
 use Rattle.paper.specs.Rows.{refuse}
 use Rattle.lists.specs.Bytes.{laid}
 use Rattle.lists.specs.Lines.{LF, lines_in}
@@ -7,19 +7,16 @@ use Rattle.lines.specs.Decimal.{FIELD_MAX, field}
 use Rattle.lines.specs.Hex.{hex_byte}
 use Rattle.lines.specs.Lines.{SPACE}
 use Rattle.codepage.specs.Points.{NONE, BYTES, point_of}
-use Rattle.published.specs.declared.Claim.{Claim}
-use Rattle.published.specs.declared.Claim.TheVariants.{Point, Undefined, NotSuch}
-use Rattle.published.specs.declared.Compared.{Compared}
-use Rattle.published.specs.declared.Compared.TheVariants.{Text, Wrong, NoRoom}
-use Rattle.published.specs.Claims.{claim_in, is_such, agrees}
+use Rattle.published.specs.declared.NotCompared.{NotCompared}
+use Rattle.published.specs.declared.NotCompared.TheVariants.{Wrong, NoRoom}
+use Rattle.published.specs.Claims.{claim_in, agrees}
 
 -- ---- which files
 
--- "a file of other than 256 such lines": the first line that isn't one, counted from 1, or 0 for none. The lines go from byte 00 to FF; from the
--- k-th byte on
-unfoldable pub wrong_from : ℕ → List (List ℕ) → ℕ
-wrong_from k [] = cond (eqb k BYTES) 0 (k + 1)
-wrong_from k (line ∷ lines) = cond (ltb k BYTES && is_such (claim_in k line)) (wrong_from (suc k) lines) (k + 1)
+-- "a file of other than 256 such lines": the first line that isn't one, counted from 1. The lines go from byte 00 to FF; from the k-th byte on
+unfoldable pub wrong_from : ℕ → List (List ℕ) → Option ℕ
+wrong_from k [] = cond (eqb k BYTES) None (Some (k + 1))
+wrong_from k (line ∷ lines) = cond (ltb k BYTES && is_some (claim_in k line)) (wrong_from (suc k) lines) (Some (k + 1))
 
 -- a line has at most a byte, a space, `undefined` and its end
 unfoldable pub FILE_MAX : ℕ
@@ -43,13 +40,13 @@ point_text p = hex_byte (p / 256) ++ hex_byte (p % 256)
 unfoldable pub our_text : ℕ → List ℕ
 our_text p = cond (eqb p NONE) (45 ∷ []) (point_text p)
 
-unfoldable pub their_text : Claim → List ℕ
-their_text (Point p) = point_text p
-their_text Undefined = 45 ∷ []
-their_text NotSuch = []
+unfoldable pub their_text : Option (Option ℕ) → List ℕ
+their_text (Some (Some p)) = point_text p
+their_text (Some None) = 45 ∷ []
+their_text None = []
 
 -- "a line `BYTE ours OURS published THEIRS` for each that doesn't"
-unfoldable pub difference_of : ℕ → Claim → List ℕ
+unfoldable pub difference_of : ℕ → Option (Option ℕ) → List ℕ
 difference_of byte claim =
     cond (agrees claim byte) []
     (((((hex_byte byte ++ OURS) ++ our_text (point_of byte)) ++ PUBLISHED) ++ their_text claim) ++ (LF ∷ []))
@@ -75,27 +72,23 @@ AGREE = 50 ∷ 53 ∷ 54 ∷ 32 ∷ 97 ∷ 103 ∷ 114 ∷ 101 ∷ 101 ∷ 10 �
 unfoldable pub text_of : List (List ℕ) → List ℕ
 text_of lines = cond (eqb (length (differences_from 0 lines)) 0) AGREE (differences_from 0 lines)
 
--- with less room than any file can need nothing is compared
-unfoldable pub compared_for : List ℕ → List ℕ → Compared
-compared_for file out =
-    refuse NoRoom (ltb (length out) COMPARED_MAX)
-    (cond (eqb (wrong_from 0 (lines_in file)) 0)
-    (Text (length (text_of (lines_in file))))
-    (Wrong (wrong_from 0 (lines_in file))))
+-- by the first line that isn't as it should be
+abbrev pub compared_by : Option ℕ → List ℕ → Result ℕ NotCompared
+compared_by None text = Ok (length text)
+compared_by (Some line) text = Err (Wrong line)
 
-abbrev pub buffer_by : Compared → List ℕ → List ℕ → List ℕ
-buffer_by (Text n) text out = laid out 0 text
-buffer_by (Wrong n) text out = out
-buffer_by NoRoom text out = out
+-- with less room than any file can need nothing is compared
+unfoldable pub compared_for : List ℕ → List ℕ → Result ℕ NotCompared
+compared_for file out =
+    refuse (Err NoRoom) (ltb (length out) COMPARED_MAX)
+    (compared_by (wrong_from 0 (lines_in file)) (text_of (lines_in file)))
+
+abbrev pub buffer_by : Result ℕ NotCompared → List ℕ → List ℕ → List ℕ
+buffer_by (Ok n) text out = laid out 0 text
+buffer_by (Err why) text out = out
 
 unfoldable pub compared_in : List ℕ → List ℕ → List ℕ
 compared_in file out = buffer_by (compared_for file out) (text_of (lines_in file)) out
-
--- what is answered fits
-abbrev pub ComparedFits : ℕ → Compared → Type 0
-ComparedFits room (Text n) = n ≤ room
-ComparedFits room (Wrong n) = Unit {0}
-ComparedFits room NoRoom = Unit {0}
 
 -- ---- what is said of a file that isn't such
 

@@ -1,16 +1,12 @@
 -- What is promised of a file that is compared.
-use Rattle.std.specs.Prelude.{ℕ, zero, suc, List, [], ◌∷◌}
-use Rattle.std.proofs.Math.Option.{Option, none, some}
+use Rattle.std.specs.Prelude.{ℕ, zero, suc, List, [], ◌∷◌, Option, None, Some}
 use Rattle.codepage.specs.Points.{point_for}
-use Rattle.published.specs.declared.Claim.{Claim}
-use Rattle.published.specs.declared.Claim.TheVariants.{Point, Undefined, NotSuch}
 use Rattle.published.specs.Claims.{claim_in}
 
--- what a line says its byte has: a code point, or none
-abbrev pub told : Claim → Option ℕ
-told (Point p) = some p
-told Undefined = none
-told NotSuch = none
+-- what a line says its byte has: a code point, or None
+abbrev pub told : Option (Option ℕ) → Option ℕ
+told (Some point) = point
+told None = None
 
 -- the table that the lines tell, from the k-th byte on
 unfoldable pub table_in : ℕ → List (List ℕ) → List (Option ℕ)

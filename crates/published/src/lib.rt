@@ -6,16 +6,17 @@
 // a buffer of `COMPARED_MAX`.
 #![tactic(auto)]
 
-ghost use Rattle.std.specs.Prelude.{◌≡◌, false, ◌+◌, ◌*◌, ◌≤◌, ◌<◌, length};
+ghost use Rattle.std.specs.Prelude.{◌≡◌, None, ◌+◌, ◌*◌, ◌^◌, ◌≤◌, ◌<◌, length, IfSome, IfOk};
 ghost use Rattle.lists.specs.Bytes.{laid};
 ghost use Rattle.lists.specs.Lines.{lines_in};
+ghost use Rattle.lines.specs.Pen.{Writes};
 ghost use Rattle.codepage.specs.Points.{BYTES};
-ghost use Rattle.published.specs.Claims.{digit_in, pair_in, or_else, claim_behind, claim_in, is_such, agrees};
+ghost use Rattle.published.specs.Claims.{digit_in, pair_in, claim_behind, claim_in, agrees};
 ghost use Rattle.published.specs.Comparing.{wrong_from, point_text, our_text, their_text, DIFFERENCE_MAX, difference_of, differences_from};
-ghost use Rattle.published.specs.Comparing.{COMPARED_MAX, compared_for, compared_in, ComparedFits, WRONG_MAX, wrong_line};
+ghost use Rattle.published.specs.Comparing.{COMPARED_MAX, compared_for, compared_in, WRONG_MAX, wrong_line};
 
 use codepage::NONE;
-use lines::FIELD_MAX;
+use lines::{FIELD_MAX, Pen};
 
 // The bytes that have an entry.
 const BYTES: usize = 256;
@@ -31,254 +32,179 @@ pub const COMPARED_MAX: usize = BYTES * DIFFERENCE_MAX;
 // The most bytes of what is said of a file that isn't such.
 pub const WRONG_MAX: usize = 12 + FIELD_MAX + 108;
 
-// What comes of a file.
+// Why a file isn't compared.
 #[derive(Clone, Copy)]
-pub enum Compared {
-    // What is printed stands at the front of the buffer, so many bytes.
-    Text(usize),
+pub enum NotCompared {
     // The first line that isn't as it should be, counted from 1.
     Wrong(usize),
     // The buffer is shorter than `COMPARED_MAX`.
     NoRoom,
 }
 
-// What a line says of its byte.
-#[derive(Clone, Copy)]
-enum Claim {
-    Point(u16),
-    Undefined,
-    // It is no such line.
-    NotSuch,
-}
-
-// No digit, and no pair of them.
-const NO_DIGIT: u16 = 16;
-
-const NO_PAIR: u16 = 256;
-
 // ---- a line
 
-// A hexadecimal digit's value, of either case, or `NO_DIGIT`.
-fn digit(c: u8) -> u16
-    ensures { (result ≡ or_else 16 (digit_in c)) × (result ≤ 16) }
+// A hexadecimal digit's value, of either case.
+fn digit(c: u8) -> Option<u32>
+    ensures value { result ≡ digit_in c }
+    ensures small { IfSome result (λ d. d < 16) }
 {
-    if c < b'0' {
-        return NO_DIGIT;
-    }
-    if c <= b'9' {
-        return (c - b'0') as u16;
-    }
-    if c < b'A' {
-        return NO_DIGIT;
-    }
-    if c <= b'F' {
-        return (c - b'A') as u16 + 10;
-    }
-    if c < b'a' {
-        return NO_DIGIT;
-    }
-    if c <= b'f' {
-        return (c - b'a') as u16 + 10;
-    }
-    NO_DIGIT
+    char::from(c).to_digit(16)
 }
 
-// The value of two digits, or `NO_PAIR`.
-fn pair(high: u8, low: u8) -> u16
-    ensures { (result ≡ or_else 256 (pair_in high low)) × (result ≤ 256) }
+// The value of two digits.
+fn pair(high: u8, low: u8) -> Option<u8>
+    ensures { result ≡ pair_in high low }
 {
-    let a = digit(high);
-    if a == NO_DIGIT {
-        return NO_PAIR;
-    }
-    let b = digit(low);
-    if b == NO_DIGIT {
-        return NO_PAIR;
-    }
-    a * 16 + b
+    let sixteens = digit(high)?;
+    let ones = digit(low)?;
+    Some((sixteens * 16 + ones) as u8)
 }
 
-// What stands behind a byte and a space: a code point in four digits, or `undefined`.
-fn claimed(rest: &[u8]) -> Claim
+// What stands behind a byte and a space: a code point in four digits, or `undefined` for none.
+fn claimed(rest: &[u8]) -> Option<Option<u16>>
     ensures { result ≡ claim_behind rest.now }
 {
-    if check::same(rest, b"undefined") {
-        return Claim::Undefined;
+    if rest == b"undefined".as_slice() {
+        return Some(None);
     }
-    if rest.len() != 4 {
-        return Claim::NotSuch;
-    }
-    let high = pair(rest[0], rest[1]);
-    if high == NO_PAIR {
-        return Claim::NotSuch;
-    }
-    let low = pair(rest[2], rest[3]);
-    if low == NO_PAIR {
-        return Claim::NotSuch;
-    }
-    Claim::Point(high * 256 + low)
+    let [a, b, c, d] = *rest else {
+        return None;
+    };
+    let high = pair(a, b)?;
+    let low = pair(c, d)?;
+    Some(Some(u16::from_be_bytes([high, low])))
 }
 
-// What a line says of a byte.
-fn claim_in(line: &[u8], byte: u8) -> Claim
+// What a line says that a byte has, a code point or none, if it is a line of that byte.
+fn claim_in(line: &[u8], byte: u8) -> Option<Option<u16>>
     ensures { result ≡ claim_in byte line.now }
 {
-    if line.len() < 3 {
-        return Claim::NotSuch;
+    let [high, low, space, ref rest @ ..] = *line else {
+        return None;
+    };
+    if pair(high, low) != Some(byte) || space != b' ' {
+        return None;
     }
-    if pair(line[0], line[1]) != byte as u16 {
-        return Claim::NotSuch;
-    }
-    if line[2] != b' ' {
-        return Claim::NotSuch;
-    }
-    claimed(&line[3..])
+    claimed(rest)
 }
 
-// Whether a line is such.
-fn is_such(claim: Claim) -> bool
-    ensures { result ≡ is_such claim }
-{
-    match claim {
-        Claim::Point(_) => true,
-        Claim::Undefined => true,
-        Claim::NotSuch => false,
-    }
-}
-
-// Whether our table has the same entry.
-fn agree(claim: Claim, byte: u8) -> bool
+// Whether our table has what a line says.
+fn agree(claim: Option<Option<u16>>, byte: u8) -> bool
     ensures { result ≡ agrees claim byte }
 {
-    match claim {
-        Claim::Point(point) => {
-            if point == NONE {
-                return false;
-            }
-            point == codepage::point_of(byte)
-        }
-        Claim::Undefined => codepage::point_of(byte) == NONE,
-        Claim::NotSuch => false,
-    }
+    claim == Some(codepage::point_for(byte))
 }
 
 // ---- the file
 
-// The first line that isn't as it should be, counted from 1, or 0 for none.
-fn wrong_line(file: &[u8]) -> usize
+// The first line that isn't as it should be, counted from 1.
+fn wrong_line(file: &[u8]) -> Option<usize>
     ensures { result ≡ wrong_from 0 (lines_in file.now) }
 {
-    let mut at = 0;
-    let mut k = 0;
-    while k < BYTES {
-        if file.len() <= at {
-            return k + 1;
+    let mut rest = file;
+    for k in 0..BYTES {
+        if rest.len() == 0 {
+            return Some(k + 1);
         }
-        let end = at + lists::first_of(&file[at..], b'\n');
-        if !is_such(claim_in(&file[at..end], k as u8)) {
-            return k + 1;
+        let (line, behind) = lists::first_line(rest);
+        if claim_in(line, k as u8).is_none() {
+            return Some(k + 1);
         }
-        at = end + 1;
-        k += 1;
+        rest = behind;
     }
-    if at < file.len() {
-        return BYTES + 1;
+    if rest.len() == 0 {
+        None
+    } else {
+        Some(BYTES + 1)
     }
-    0
 }
 
 // ---- the lines of those that differ
 
-// A code point's four digits, from a place on. Answers how many there are.
-fn point_text(out: &mut [u8], at: usize, point: u16) -> usize
-    requires { at ≤ DIFFERENCE_MAX }
-    ensures value { (result ≡ length (point_text point)) × (result ≤ 4) }
-    ensures out_after { out.new ≡ laid out.old at (point_text point) }
+// A code point's four digits.
+fn point_text(pen: &mut Pen, point: u16)
+    requires { pen.old.at + 4 < 2 ^ 64 }
+    ensures { Writes pen.old pen.new (point_text point) 4 }
 {
-    let high = lines::hex_byte((point / 256) as u8);
-    let low = lines::hex_byte((point % 256) as u8);
-    let begun = lines::text(out, at, &high);
-    begun + lines::text(out, at + begun, &low)
+    pen.text(&lines::hex_byte((point / 256) as u8));
+    pen.text(&lines::hex_byte((point % 256) as u8));
 }
 
-// Our entry, from a place on: `-` for none. Answers its length.
-fn ours(out: &mut [u8], at: usize, point: u16) -> usize
-    requires { at ≤ DIFFERENCE_MAX }
-    ensures value { (result ≡ length (our_text point)) × (result ≤ 4) }
-    ensures out_after { out.new ≡ laid out.old at (our_text point) }
+// Our entry: `-` for none.
+fn ours(pen: &mut Pen, point: u16)
+    requires { pen.old.at + 4 < 2 ^ 64 }
+    ensures { Writes pen.old pen.new (our_text point) 4 }
 {
     if point == NONE {
-        return lines::text(out, at, b"-");
+        pen.text(b"-");
+        return;
     }
-    point_text(out, at, point)
+    point_text(pen, point);
 }
 
-// The published one, from a place on: `-` for none. Answers its length.
-fn theirs(out: &mut [u8], at: usize, claim: Claim) -> usize
-    requires { at ≤ DIFFERENCE_MAX }
-    ensures value { (result ≡ length (their_text claim)) × (result ≤ 4) }
-    ensures out_after { out.new ≡ laid out.old at (their_text claim) }
+// The published one: `-` for none.
+fn theirs(pen: &mut Pen, claim: Option<Option<u16>>)
+    requires { pen.old.at + 4 < 2 ^ 64 }
+    ensures { Writes pen.old pen.new (their_text claim) 4 }
 {
     match claim {
-        Claim::Point(point) => point_text(out, at, point),
-        Claim::Undefined => lines::text(out, at, b"-"),
-        Claim::NotSuch => 0,
+        Some(Some(point)) => point_text(pen, point),
+        Some(None) => pen.text(b"-"),
+        None => {}
     }
 }
 
 // The line of a byte whose entries differ, at the front. Answers its length: 0 where they agree.
-fn difference(out: &mut [u8], byte: u8, claim: Claim) -> usize
+fn difference(out: &mut [u8], byte: u8, claim: Option<Option<u16>>) -> usize
     ensures value { (result ≡ length (difference_of byte claim)) × (result ≤ DIFFERENCE_MAX) }
     ensures out_after { out.new ≡ laid out.old 0 (difference_of byte claim) }
 {
     if agree(claim, byte) {
         return 0;
     }
-    let hex = lines::hex_byte(byte);
-    let named = lines::text(out, 0, &hex);
-    let of_us = named + lines::text(out, named, b" ours ");
-    let told = of_us + ours(out, of_us, codepage::point_of(byte));
-    let of_them = told + lines::text(out, told, b" published ");
-    let all = of_them + theirs(out, of_them, claim);
-    all + lines::text(out, all, b"\n")
+    let mut pen = Pen { out, at: 0 };
+    pen.text(&lines::hex_byte(byte));
+    pen.text(b" ours ");
+    ours(&mut pen, codepage::point_of(byte));
+    pen.text(b" published ");
+    theirs(&mut pen, claim);
+    pen.text(b"\n");
+    pen.at
 }
 
 // The lines of all that differ, in a file that is as it should be. Answers how many bytes they have.
 fn lay_differences(file: &[u8], out: &mut [u8]) -> usize
-    requires { (wrong_from 0 (lines_in file.now) ≡ 0) × (COMPARED_MAX ≤ length out.old) }
+    requires { (wrong_from 0 (lines_in file.now) ≡ None) × (COMPARED_MAX ≤ length out.old) }
     ensures value { (result ≡ length (differences_from 0 (lines_in file.now))) × (result ≤ COMPARED_MAX) }
     ensures out_after { out.new ≡ laid out.old 0 (differences_from 0 (lines_in file.now)) }
 {
-    let mut at = 0;
-    let mut k: usize = 0;
+    let mut rest = file;
     let mut used = 0;
-    while at < file.len() {
-        let end = at + lists::first_of(&file[at..], b'\n');
+    for k in 0..BYTES {
+        let (line, behind) = lists::first_line(rest);
         let byte = k as u8;
-        used += difference(&mut out[used..], byte, claim_in(&file[at..end], byte));
-        at = end + 1;
-        k += 1;
+        used += difference(&mut out[used..], byte, claim_in(line, byte));
+        rest = behind;
     }
     used
 }
 
-// Compares our table with the published one.
-pub fn compare(file: &[u8], out: &mut [u8]) -> Compared
-    ensures value { (result ≡ compared_for file.now out.old) × ComparedFits COMPARED_MAX result }
+// Compares our table with the published one. Answers how many bytes stand at the front of the buffer.
+pub fn compare(file: &[u8], out: &mut [u8]) -> Result<usize, NotCompared>
+    ensures value { (result ≡ compared_for file.now out.old) × IfOk result (λ n. n ≤ COMPARED_MAX) }
     ensures out_after { out.new ≡ compared_in file.now out.old }
 {
     if out.len() < COMPARED_MAX {
-        return Compared::NoRoom;
+        return Err(NotCompared::NoRoom);
     }
-    let wrong = wrong_line(file);
-    if wrong != 0 {
-        return Compared::Wrong(wrong);
+    if let Some(line) = wrong_line(file) {
+        return Err(NotCompared::Wrong(line));
     }
     let used = lay_differences(file, out);
     if used != 0 {
-        return Compared::Text(used);
+        return Ok(used);
     }
-    Compared::Text(lines::text(out, 0, b"256 agree\n"))
+    Ok(lines::text(out, 0, b"256 agree\n"))
 }
 
 // What is said of a file by its first line that isn't as it should be, at the front. Answers its length.
@@ -286,12 +212,11 @@ pub fn say(out: &mut [u8], line: usize) -> usize
     ensures value { (result ≡ length (wrong_line line)) × (result ≤ WRONG_MAX) }
     ensures out_after { out.new ≡ laid out.old 0 (wrong_line line) }
 {
-    let begun = lines::text(out, 0, b"names: line ");
-    let numbered = begun + lines::field(out, begun, line as u64, b' ');
-    numbered
-        + lines::text(
-            out,
-            numbered,
-            b"isn't as it should be: 256 lines are wanted, `BYTE POINT` or `BYTE undefined` in hexadecimal, from 00 to FF\n",
-        )
+    let mut pen = Pen { out, at: 0 };
+    pen.text(b"names: line ");
+    pen.field(line as u64, b' ');
+    pen.text(
+        b"isn't as it should be: 256 lines are wanted, `BYTE POINT` or `BYTE undefined` in hexadecimal, from 00 to FF\n",
+    );
+    pen.at
 }

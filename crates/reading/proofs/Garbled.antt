@@ -1,6 +1,7 @@
 -- What a block of data carries, by its bytes and beside what reading finds: where a number stands whole, reading refuses the PDU
 -- or answers a Data First or a Data with that number.
 -- Assumes nothing.
+use Rattle.std.specs.Prelude.{Option, None, Some}
 use mathlib.Core.Path.{◌≡◌, refl, ap, subst, ◌∙◌}
 use mathlib.Core.Bool.{Bool, true, false, cond, ◌||◌}
 use mathlib.Core.List.{List, [], ◌∷◌}
@@ -15,8 +16,6 @@ use Rattle.lists.proofs.Cases.{choice}
 use Rattle.paper.specs.declared.Refusal.TheVariants.{CutShort}
 use Rattle.numbers.specs.Numbers.{Bytes, value_at, width_of}
 use Rattle.numbers.proofs.Widths.{value_in, width_le}
-use Rattle.reading.specs.declared.Carried.{Carried}
-use Rattle.reading.specs.declared.Carried.TheVariants.{NoNumber, Number}
 use Rattle.reading.specs.declared.Pdu.{Pdu}
 use Rattle.reading.specs.declared.Pdu.TheVariants.{CreateRequest, CreateResponse, DataFirst, Data, Close}
 use Rattle.reading.specs.declared.Pdu.TheVariants.{CapsRequest, CapsResponse, Refused}
@@ -33,7 +32,7 @@ pub all_there : (long width : ℕ) → width < long → ltb long (1 + width) ≡
 all_there long width h = le-ltb long (1 + width) (omega arith)
 
 -- nothing stands in an empty PDU
-pub empty_carries : (pdu : List ℕ) → length pdu ≡ 0 → carries pdu ≡ NoNumber
+pub empty_carries : (pdu : List ℕ) → length pdu ≡ 0 → carries pdu ≡ None
 unfolding carries carries_by brings_block
 empty_carries [] h = refl
 empty_carries (b ∷ bs) h = absurd (omega arith)
@@ -47,15 +46,15 @@ record Whole (pdu : List ℕ) (n : ℕ) : Type 0 where
   pub value : value_at pdu 1 (width_of (get_or pdu 0 0 % 4)) ≡ n
 
 -- a test whose first arm has no number
-second_arm : (t : Bool) (c : Carried) (n : ℕ) → cond t NoNumber c ≡ Number n → (t ≡ false) × (c ≡ Number n)
+second_arm : (t : Bool) (c : Option ℕ) (n : ℕ) → cond t None c ≡ Some n → (t ≡ false) × (c ≡ Some n)
 second_arm true c n h = let z : ◌≡◌ {A = ℕ} 0 1 = cc in absurd (omega arith)
 second_arm false c n h = (refl, h)
 
-first_arm : (t : Bool) (c : Carried) (n : ℕ) → cond t c NoNumber ≡ Number n → (t ≡ true) × (c ≡ Number n)
+first_arm : (t : Bool) (c : Option ℕ) (n : ℕ) → cond t c None ≡ Some n → (t ≡ true) × (c ≡ Some n)
 first_arm true c n h = (refl, h)
 first_arm false c n h = let z : ◌≡◌ {A = ℕ} 0 1 = cc in absurd (omega arith)
 
-stands_whole : (pdu : List ℕ) (n : ℕ) → carries pdu ≡ Number n → Whole pdu n
+stands_whole : (pdu : List ℕ) (n : ℕ) → carries pdu ≡ Some n → Whole pdu n
 unfolding carries carries_by whole_in
 stands_whole pdu n h =
     let block = first_arm (brings_block (get_or pdu 0 0 / 16)) _ n h in
@@ -129,7 +128,7 @@ module _ (fromServer : Bool) (pdu : List ℕ) (n : ℕ) where
       (numbered_block DATA_FIRST middle cbId (first_block middle) v) (numbered_block DATA middle cbId (data_block middle) v)
       tt tt cmd b
 
-  pub carried_is_read : carries pdu ≡ Number n → BlockOf n (read_pdu fromServer pdu)
+  pub carried_is_read : carries pdu ≡ Some n → BlockOf n (read_pdu fromServer pdu)
   unfolding read_pdu
   carried_is_read h =
       let w = stands_whole pdu n h in
@@ -143,7 +142,7 @@ module _ (fromServer : Bool) (pdu : List ℕ) (n : ℕ) where
 byte_fields : (b : ℕ) → b ≡ first_byte (b / 16) (b / 4 % 4) (b % 4)
 byte_fields b = omega arith
 
-only_such : (n : ℕ) (pdu : List ℕ) → Bytes pdu → carries pdu ≡ Number n → Carrying n pdu
+only_such : (n : ℕ) (pdu : List ℕ) → Bytes pdu → carries pdu ≡ Some n → Carrying n pdu
 unfolding number at
 only_such n pdu b h =
     let w = stands_whole pdu n h in
@@ -169,7 +168,7 @@ only_such n pdu b h =
 
 carrying_carries :
     (n code cmd middle : ℕ) (rest : List ℕ) → brings_block cmd ≡ true → middle ≤ 3 → InWidth code n
-    → carries (carrying code cmd middle n rest) ≡ Number n
+    → carries (carrying code cmd middle n rest) ≡ Some n
 unfolding carries carries_by whole_in
 carrying_carries n code cmd middle rest b m w =
     let pdu = carrying code cmd middle n rest in
@@ -179,7 +178,7 @@ carrying_carries n code cmd middle rest b m w =
     let valid : code ≡ 3 → ⊥ = λ e. omega arith in
     let room : 1 + width_of code ≤ length pdu = omega (arith, length_carried code cmd middle n rest) in
     rw (e1, e2, b, ne_eqb code 3 valid, le-ltb (length pdu) (1 + width_of code) room)
-    (ap Number (value_in (first_byte cmd middle code ∷ []) rest (width_of code) n 1 refl (width_le code) w.holds))
+    (ap Some (value_in (first_byte cmd middle code ∷ []) rest (width_of code) n 1 refl (width_le code) w.holds))
 
 pub carries_exactly : (n : ℕ) (pdu : List ℕ) → Bytes pdu → CarriesExactly n pdu
 carries_exactly n pdu b =
@@ -192,7 +191,7 @@ carries_exactly n pdu b =
 pub cut_off :
     (fromServer : Bool) (n code lengthCode : ℕ) (rest : List ℕ) → InWidth code n → lengthCode ≤ 2 → length rest < width_of lengthCode
     → (read_pdu fromServer (carrying code DATA_FIRST lengthCode n rest) ≡ Refused CutShort)
-    × (carries (carrying code DATA_FIRST lengthCode n rest) ≡ Number n)
+    × (carries (carrying code DATA_FIRST lengthCode n rest) ≡ Some n)
 unfolding after_number data_first bad_length_width brings_block PDU_MAX
 cut_off fromServer n code lengthCode rest w c short =
     let pdu = carrying code DATA_FIRST lengthCode n rest in

@@ -6,6 +6,7 @@ use Rattle.lists.proofs.Cases.{same}
 use Rattle.reading.proofs.read.Reads as read
 use Rattle.reading.proofs.read_strict.Reads as read-strict
 use Rattle.reading.proofs.carries.Reads as carries
+use Rattle.reading.proofs.charges_at.Reads as charges-at
 use Rattle.reading.proofs.verdict.Reads as verdict
 use Rattle.reading.proofs.dvc_strict.Reads as dvc-strict
 
@@ -20,6 +21,10 @@ read_strict_one κs a r r' s s' p q = same p q
 pub carries_one : (κs : _) (a : _) (r r' : _) (s s' : _) → carries.Post κs a r s → carries.Post κs a r' s'
     → r ≡ r'
 carries_one κs a r r' s s' p q = same p q
+
+pub charges_at_one : (κs : _) (a : _) (r r' : _) (s s' : _) → charges-at.Post κs a r s → charges-at.Post κs a r' s'
+    → r ≡ r'
+charges_at_one κs a r r' s s' p q = same p q
 
 pub verdict_one : (κs : _) (a : _) (r r' : _) (s s' : _) → verdict.Post κs a r s → verdict.Post κs a r' s'
     → r ≡ r'

@@ -65,10 +65,15 @@ numbered fromServer pdu cmd middle cbId =
     (refuse (Refused CutShort) (ltb (length pdu) (1 + width_of cbId))
     (after_number fromServer pdu cmd middle (value_at pdu 1 (width_of cbId)) (1 + width_of cbId))))
 
--- the four charges
-abbrev pub charges_at : List ℕ → Charges
-charges_at pdu =
-    record { class0 = value_at pdu 4 2; class1 = value_at pdu 6 2; class2 = value_at pdu 8 2; class3 = value_at pdu 10 2 }
+-- the four charges, of two bytes each, from a place on
+abbrev pub charges_at : List ℕ → ℕ → Charges
+charges_at bytes at =
+    record {
+      class0 = value_at bytes at 2;
+      class1 = value_at bytes (at + 2) 2;
+      class2 = value_at bytes (at + 4) 2;
+      class3 = value_at bytes (at + 6) 2;
+    }
 
 -- "for versions 2 and 3 four charges of 2 bytes"; version 1 is read with charges of 0
 unfoldable pub charged : List ℕ → ℕ → Pdu
@@ -78,7 +83,7 @@ charged pdu version =
     (CapsRequest version (record { class0 = 0; class1 = 0; class2 = 0; class3 = 0 })))
     (refuse (Refused CutShort) (ltb (length pdu) 12)
     (refuse (Refused BadField) (ltb 12 (length pdu))
-    (CapsRequest version (charges_at pdu))))
+    (CapsRequest version (charges_at pdu 4))))
 
 -- "Version 2 bytes, 1 to 3"
 unfoldable pub bad_version : ℕ → Bool

@@ -4,7 +4,7 @@
 // holds gives the refusal. `read_strict` refuses more, last: a number or Length that a narrower width would hold, and
 // ignored bits that are set. Both stand on the same stages, `find` and those before it, in that order, each with a
 // definition of its own name in specs/Reading; what strict reading adds to them is in specs/Strict. `carries` tells whose a
-// block of data is that reading refuses.
+// block of data is that reading refuses. `charges_at` reads four charges wherever they stand.
 #![tactic(auto)]
 
 ghost use Rattle.std.specs.Prelude.{◌≡◌, false, ◌||◌, ◌+◌, ◌≤◌, length};
@@ -12,10 +12,10 @@ ghost use Rattle.paper.specs.Rows.{verdict_number};
 ghost use Rattle.numbers.specs.Numbers.{wide_at, measured_at};
 ghost use Rattle.reading.specs.Reading.{read_pdu, by_command, numbered, bad_length_width, after_number};
 ghost use Rattle.reading.specs.Reading.{create_request, create_response, data_first, closing};
-ghost use Rattle.reading.specs.Reading.{capabilities, by_version, charged};
+ghost use Rattle.reading.specs.Reading.{capabilities, by_version, charges_at, charged};
 ghost use Rattle.reading.specs.declared.Pdu.TheVariants.{Refused};
 ghost use Rattle.reading.specs.Garbled.{brings_block, whole_in, carries};
-ghost use Rattle.reading.specs.Said.{verdict_on};
+ghost use Rattle.reading.specs.Said.{bytes_at, verdict_on};
 ghost use Rattle.reading.specs.Strict.{read_strict, strict_verdict, loose_by, loose_numbered, loose_after, loose, strictly, judged};
 
 use numbers::Measured;
@@ -31,6 +31,17 @@ pub struct Extent {
     pub len: usize,
 }
 
+impl Extent {
+    // The bytes there, as far as the PDU has any.
+    pub fn of(self, pdu: &[u8]) -> &[u8]
+        ensures { result.now ≡ bytes_at pdu.now self }
+    {
+        let at = self.at.min(pdu.len());
+        let len = self.len.min(pdu.len() - at);
+        &pdu[at..at + len]
+    }
+}
+
 // The priority charges. The channels of class k use charge k.
 #[derive(Clone, Copy)]
 pub struct Charges {
@@ -40,7 +51,8 @@ pub struct Charges {
     pub class3: u16,
 }
 
-// What reading answers.
+// What reading answers: one enum of the kinds, with the refusal as one case more, since its promises say the paper's number and
+// values for each case.
 #[derive(Clone, Copy)]
 pub enum Pdu {
     // From the server. The name is without its zero byte; class is Pri, whatever the level.
@@ -76,13 +88,6 @@ pub enum Pdu {
         version: u16,
     },
     Refused(Refusal),
-}
-
-// The channel number that stands whole in a block of data, if one does.
-#[derive(Clone, Copy)]
-pub enum Carried {
-    NoNumber,
-    Number(u32),
 }
 
 // What both readings share: plain reading's answer, and whether strict reading refuses what that accepts.
@@ -261,6 +266,19 @@ fn numbered(pdu: &[u8], from_server: bool, cmd: u8, middle: u8, cb_id: u8) -> Fo
     )
 }
 
+// The four charges from a place on, two bytes each. Where the bytes end before, a charge is the number of those that are there.
+pub fn charges_at(bytes: &[u8], at: u16) -> Charges
+    ensures { result ≡ charges_at bytes.now at }
+{
+    let at = at as usize;
+    Charges {
+        class0: numbers::short_at(bytes, at),
+        class1: numbers::short_at(bytes, at + 2),
+        class2: numbers::short_at(bytes, at + 4),
+        class3: numbers::short_at(bytes, at + 6),
+    }
+}
+
 // A Capabilities request of a good version: versions 2 and 3 have four charges.
 fn charged(pdu: &[u8], version: u16) -> Pdu
     ensures { result ≡ charged pdu.now version }
@@ -283,12 +301,7 @@ fn charged(pdu: &[u8], version: u16) -> Pdu
     if 12 < pdu.len() {
         return Pdu::Refused(Refusal::BadField);
     }
-    let charges = Charges {
-        class0: numbers::short_at(pdu, 4),
-        class1: numbers::short_at(pdu, 6),
-        class2: numbers::short_at(pdu, 8),
-        class3: numbers::short_at(pdu, 10),
-    };
+    let charges = charges_at(pdu, 4);
     Pdu::CapsRequest { version, charges }
 }
 
@@ -405,35 +418,35 @@ fn brings_block(cmd: u8) -> bool
 }
 
 // The number in the width of the code, where the PDU has all its bytes.
-fn whole_in(pdu: &[u8], code: u8) -> Carried
+fn whole_in(pdu: &[u8], code: u8) -> Option<u32>
     ensures { result ≡ whole_in pdu.now code }
 {
     if code == 3 {
-        return Carried::NoNumber;
+        return None;
     }
     let width = numbers::width(code);
     if pdu.len() <= width {
-        return Carried::NoNumber;
+        return None;
     }
     let number = number_at(pdu, 1, width);
-    Carried::Number(number.value)
+    Some(number.value)
 }
 
 // The channel number that a block of data carries whole, also where reading refuses the PDU, for whatever reason.
-pub fn carries(pdu: &[u8]) -> Carried
+pub fn carries(pdu: &[u8]) -> Option<u32>
     ensures { result ≡ carries pdu.now }
 {
     if pdu.len() == 0 {
-        return Carried::NoNumber;
+        return None;
     }
     let first = pdu[0];
     if brings_block(first / 16) {
         return whole_in(pdu, first % 4);
     }
-    Carried::NoNumber
+    None
 }
 
-// The number of an answer's refusal, or 0 where it is none.
+// The number of an answer's refusal, or 0 where it is none: what the C face answers and the lines of a run print.
 pub fn verdict(answer: Pdu) -> u8
     ensures { result ≡ verdict_number (verdict_on answer) }
 {

@@ -6,3 +6,5 @@ pub mod Pdus
 pub mod Desk
 pub mod Pieces
 pub mod One
+pub mod Found
+pub mod Calls

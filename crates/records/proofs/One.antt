@@ -10,7 +10,7 @@ use Rattle.records.proofs.due_for.Reads as due-for
 
 pub whole_one : (κs : _) (a : _) (r r' : _) (s s' : _) → whole.Post κs a r s → whole.Post κs a r' s'
     → r ≡ r'
-whole_one κs a r r' s s' p q = same p q
+whole_one κs a r r' s s' p q = same p.0 q.0
 
 pub due_for_one : (κs : _) (a : _) (r r' : _) (s s' : _) → due-for.Post κs a r s → due-for.Post κs a r' s'
     → r ≡ r'
@@ -18,8 +18,8 @@ due_for_one κs a r r' s s' p q = same p q
 
 pub desk_whole_one : (κs : _) (a : _) (r r' : _) (s s' : _) → desk-whole.Post κs a r s → desk-whole.Post κs a r' s'
     → r ≡ r'
-desk_whole_one κs a r r' s s' p q = same p q
+desk_whole_one κs a r r' s s' p q = same p.0 q.0
 
 pub link_whole_one : (κs : _) (a : _) (r r' : _) (s s' : _) → link-whole.Post κs a r s → link-whole.Post κs a r' s'
     → r ≡ r'
-link_whole_one κs a r r' s s' p q = same p q
+link_whole_one κs a r r' s s' p q = same p.0 q.0

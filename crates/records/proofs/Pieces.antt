@@ -11,7 +11,9 @@ use borrow.Author.Tests.{lt-ltb, le-ltb, eq-eqb, eqb-true}
 use lib.Dec.{ltb, eqb}
 use lib.ListN.{length, drop, length-drop, length-append}
 use lib.Seq.{drop-append-le, drop-drop}
+use Rattle.std.proofs.Common.{Option}
 use Rattle.lists.proofs.Cases.{lt_or_le, choice}
+use Rattle.records.specs.Records.{found}
 use Rattle.records.specs.declared.Due.{Due}
 use Rattle.records.specs.declared.Due.TheVariants.{Read, Room, Nothing}
 use Rattle.records.specs.Walks.{Framing, front_of, Program, after_all, text_of_all, size_of, rest_of, ending, written, output, Went, stay, onward, walk_over, walk_through, Turned, due_for, walked, ended, turned, at_first, Met, brought, standing, Ran, ran}
@@ -107,11 +109,11 @@ Leads p s input run t =
     → t.went.text ++ run.text ≡ written p s (input ++ run.input)
 
 walk_leads : {S : Type 0} (p : Program S) → Framed p → (room : ℕ) (s : S) (input : List ℕ) (run : Ran S) → Leads p s input run (walked p room s input)
-unfolding walked due_for Promise Leads
+unfolding walked found due_for Promise Leads
 walk_leads p f room s input run =
     let went = walk_through p room s input in
     let rest = drop went.taken input in
-    choice (λ (d : Due). Leads p s input run (record { went = went; due = d })) (eqb (p.extent rest) 0)
+    choice (λ (at : Option ℕ). Leads p s input run (record { went = went; due = due_for at })) (eqb (p.extent rest) 0)
     (λ none promise end. rw (pieces p f room s input run.input, promise (eqb-true _ _ none) end))
     (λ some promise end. rw (pieces p f room s input run.input, promise end))
 

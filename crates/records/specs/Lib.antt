@@ -3,3 +3,4 @@ pub mod Desk
 pub mod Walks
 pub mod Items
 pub mod Pdus
+pub mod Calls

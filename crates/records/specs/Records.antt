@@ -1,5 +1,5 @@
 -- "The walker program reads PDUs from standard input, each after its length in two bytes, little-endian."
-use Rattle.std.specs.Prelude.{ℕ, ◌+◌, ◌^◌, cond, List, ltb, length, take, drop}
+use Rattle.std.specs.Prelude.{ℕ, ◌+◌, ◌^◌, cond, Option, None, Some, List, eqb, ltb, length, take, drop}
 use Rattle.numbers.specs.Numbers.{value_of}
 
 -- the bytes of a record's length
@@ -16,6 +16,10 @@ whole_of input =
     cond (ltb (length input) LENGTH) 0
     (cond (ltb (length input) (LENGTH + announced input)) 0
     (LENGTH + announced input))
+
+-- a number of bytes as a program has it: 0 stands for none
+unfoldable pub found : ℕ → Option ℕ
+found n = cond (eqb n 0) None (Some n)
 
 -- the PDU of a record
 unfoldable pub pdu_in : List ℕ → List ℕ

@@ -1,6 +1,7 @@
 -- A walk over records, whatever a record is and whatever a program does with it. The input comes in pieces, as reads give it,
 -- and the text goes out in pieces, as the output has room.
-use Rattle.std.specs.Prelude.{◌≡◌, ℕ, zero, suc, ◌+◌, ◌-◌, ◌≤◌, ◌<◌, cond, List, [], ◌∷◌, ◌++◌, ltb, eqb, length, take, drop}
+use Rattle.std.specs.Prelude.{◌≡◌, ℕ, zero, suc, ◌+◌, ◌-◌, ◌≤◌, ◌<◌, cond, Option, None, Some, List, [], ◌∷◌, ◌++◌, ltb, eqb, length, take, drop}
+use Rattle.records.specs.Records.{found}
 use Rattle.records.specs.declared.Due.{Due}
 use Rattle.records.specs.declared.Due.TheVariants.{Read, Room, Nothing}
 
@@ -106,15 +107,16 @@ pub record Turned (S : Type 0) : Type 0 where
   pub due : Due
 
 -- a whole record that is left, of so many bytes, waits for room, anything else for a read
-unfoldable pub due_for : ℕ → Due
-due_for n = cond (eqb n 0) Read Room
+unfoldable pub due_for : Option ℕ → Due
+due_for None = Read
+due_for (Some n) = Room
 
 -- the whole records, as far as there is room
 unfoldable pub walked : {S : Type 0} → Program S → ℕ → S → List ℕ → Turned S
 walked p room s input =
     record {
       went = walk_through p room s input;
-      due = due_for (p.extent (drop (walk_through p room s input).taken input));
+      due = due_for (found (p.extent (drop (walk_through p room s input).taken input)));
     }
 
 -- the end of the input, and of the walk; with too little room it waits

@@ -7,15 +7,20 @@
 // specs/Walks says what any program that walks over records writes, at a turn and over a whole run.
 #![tactic(auto)]
 
-ghost use Rattle.std.specs.Prelude.{◌≡◌, ◌≤◌};
-ghost use Rattle.records.specs.Records.{whole_of};
+ghost use Rattle.std.specs.Prelude.{◌≡◌, ℕ, ◌<◌, ◌≤◌, List, cond, length, IfSome, nat_lt};
+ghost use Rattle.lists.specs.Bytes.{laid};
+ghost use Rattle.records.specs.Records.{found, whole_of};
 ghost use Rattle.records.specs.Desk.{NEEDS_MAX, desk_needs, desk_whole, message_needs, link_needs, link_whole};
-ghost use Rattle.records.specs.Walks.{due_for};
+ghost use Rattle.records.specs.Walks.{due_for, records_of, size_of, rest_of};
+ghost use Rattle.std.specs.List.{FoldsTo};
+ghost use Rattle.records.specs.Pdus.{pdus_in};
+ghost use Rattle.records.specs.Calls.{Calls};
 
 // The bytes of a record's length.
 pub const LENGTH: usize = 2;
 
-// The lengths that announce no PDU in a record of the desk: the host's request, its local open and its local close.
+// The lengths that announce no PDU in a record of the desk: the host's request, its local open and its local close. What a record
+// announces, and the byte that leads one, are numbers of the input's format, and the definitions compare numbers: no enum.
 pub const REQUEST: u32 = 65533;
 
 pub const OPEN: u32 = 65534;
@@ -50,7 +55,7 @@ pub const MESSAGE_HEAD: usize = LEAD + 4 + 2;
 // announce.
 pub const RECORD_MAX: usize = MESSAGE_HEAD + 65535 + 1;
 
-// What a walk waits for.
+// What a walk waits for: three states, not the shape of an option.
 #[derive(Clone, Copy)]
 pub enum Due {
     // More bytes, behind those that are left.
@@ -61,63 +66,73 @@ pub enum Due {
     Nothing,
 }
 
-// How many bytes the record at the front has, its length among them, or 0 where no whole record stands there.
-pub fn whole(input: &[u8]) -> usize
-    ensures { result ≡ whole_of input.now }
+// Where a run over records stands between two reads: what it keeps, and how many bytes were left.
+#[derive(Clone, Copy)]
+pub struct Stand<C> {
+    pub course: C,
+    pub had: usize,
+}
+
+// What a walk through records gives: what is kept, and how many bytes of the input it took.
+struct Walked<C> {
+    course: C,
+    taken: usize,
+}
+
+// So many bytes, where they are there.
+#[tactic(auto, using(std::proofs::lemmas::Bool::Decides::nat_tests), unfolding(crate::specs::Records::found))]
+fn there(input: &[u8], n: usize) -> Option<usize>
+    requires { 0 < n }
+    ensures value { result ≡ found (cond (nat_lt (length input.now) n) 0 n) }
+    ensures within { IfSome result (λ k. (k ≡ n) × (n ≤ length input.now)) }
 {
-    if input.len() < LENGTH {
-        return 0;
-    }
-    let announced = numbers::number(&input[..LENGTH]);
+    (n <= input.len()).then_some(n)
+}
+
+// How many bytes the record at the front has, its length among them, where a whole record stands there.
+#[tactic(auto, using(std::proofs::lemmas::Bool::Decides::nat_tests), unfolding(crate::specs::Records::found, crate::specs::Records::whole_of, crate::specs::Records::announced))]
+pub fn whole(input: &[u8]) -> Option<usize>
+    ensures value { result ≡ found (whole_of input.now) }
+    ensures within { IfSome result (λ n. (LENGTH ≤ n) × (n ≤ length input.now)) }
+{
+    let announced = numbers::number(input.get(..LENGTH)?);
     let size = LENGTH + announced as usize;
-    if input.len() < size {
-        return 0;
-    }
-    size
+    there(input, size)
 }
 
 // How many bytes a record of the desk needs, as far as those that are there can tell. Where PDUs are not among the records,
 // a length that announces one is all that is looked at.
+#[tactic(auto, using(std::proofs::lemmas::Bool::Decides::nat_tests), unfolding(crate::specs::Desk::desk_needs, crate::specs::Desk::name_length, crate::specs::Records::announced))]
 fn desk_needs(pdus: bool, input: &[u8]) -> usize
-    ensures { (result ≡ desk_needs pdus input.now) × (result ≤ NEEDS_MAX) }
+    ensures { (result ≡ desk_needs pdus input.now) × ((LENGTH ≤ result) × (result ≤ NEEDS_MAX)) }
 {
     if input.len() < LENGTH {
         return LENGTH;
     }
     let announced = numbers::number(&input[..LENGTH]);
-    if announced == REQUEST {
-        return REQUEST_SIZE;
+    match announced {
+        REQUEST => REQUEST_SIZE,
+        OPEN if input.len() < OPEN_HEAD => OPEN_HEAD,
+        OPEN => OPEN_HEAD + numbers::number(&input[LENGTH + 1..OPEN_HEAD]) as usize,
+        CLOSE => CLOSE_SIZE,
+        _ if pdus => LENGTH + announced as usize,
+        _ => LENGTH,
     }
-    if announced == OPEN {
-        if input.len() < OPEN_HEAD {
-            return OPEN_HEAD;
-        }
-        let name = numbers::number(&input[LENGTH + 1..OPEN_HEAD]);
-        return OPEN_HEAD + name as usize;
-    }
-    if announced == CLOSE {
-        return CLOSE_SIZE;
-    }
-    if pdus {
-        return LENGTH + announced as usize;
-    }
-    LENGTH
 }
 
-// How many bytes the desk's record at the front has, or 0 where no whole record stands there.
-pub fn desk_whole(input: &[u8]) -> usize
-    ensures { result ≡ desk_whole input.now }
+// How many bytes the desk's record at the front has, where a whole record stands there.
+#[tactic(auto, using(std::proofs::lemmas::Bool::Decides::nat_tests), unfolding(crate::specs::Desk::desk_whole, crate::specs::Desk::whole_by))]
+pub fn desk_whole(input: &[u8]) -> Option<usize>
+    ensures value { result ≡ found (desk_whole input.now) }
+    ensures within { IfSome result (λ n. (LENGTH ≤ n) × (n ≤ length input.now)) }
 {
-    let n = desk_needs(true, input);
-    if input.len() < n {
-        return 0;
-    }
-    n
+    there(input, desk_needs(true, input))
 }
 
 // How many bytes a message's record needs.
+#[tactic(auto, using(std::proofs::lemmas::Bool::Decides::nat_tests), unfolding(crate::specs::Desk::message_needs, crate::specs::Desk::message_length))]
 fn message_needs(input: &[u8]) -> usize
-    ensures { result ≡ message_needs input.now }
+    ensures { (result ≡ message_needs input.now) × (LEAD ≤ result) }
 {
     if input.len() < MESSAGE_HEAD {
         return MESSAGE_HEAD;
@@ -127,46 +142,85 @@ fn message_needs(input: &[u8]) -> usize
 }
 
 // How many bytes a record of both ends needs. With any other leading byte that byte is all that is looked at.
+#[tactic(auto, using(std::proofs::lemmas::Bool::Decides::nat_tests), unfolding(crate::specs::Desk::link_needs, crate::specs::Desk::leading))]
 fn link_needs(input: &[u8]) -> usize
-    ensures { result ≡ link_needs input.now }
+    ensures { (result ≡ link_needs input.now) × (LEAD ≤ result) }
 {
     if input.len() < LEAD {
         return LEAD;
     }
-    let lead = input[0];
-    if lead == AT_SHORE {
-        return LEAD + desk_needs(false, &input[LEAD..]);
+    match input[0] {
+        AT_SHORE => LEAD + desk_needs(false, &input[LEAD..]),
+        PANEL_CLOSE => LEAD + 4,
+        FROM_SHORE | FROM_PANEL => message_needs(input),
+        _ => LEAD,
     }
-    if lead == PANEL_CLOSE {
-        return LEAD + 4;
-    }
-    if lead == FROM_SHORE {
-        return message_needs(input);
-    }
-    if lead == FROM_PANEL {
-        return message_needs(input);
-    }
-    LEAD
 }
 
-// How many bytes the record of both ends at the front has, or 0 where no whole record stands there.
-pub fn link_whole(input: &[u8]) -> usize
-    ensures { result ≡ link_whole input.now }
+// How many bytes the record of both ends at the front has, where a whole record stands there.
+#[tactic(auto, using(std::proofs::lemmas::Bool::Decides::nat_tests), unfolding(crate::specs::Desk::link_whole, crate::specs::Desk::whole_by))]
+pub fn link_whole(input: &[u8]) -> Option<usize>
+    ensures value { result ≡ found (link_whole input.now) }
+    ensures within { IfSome result (λ n. (LEAD ≤ n) × (n ≤ length input.now)) }
 {
-    let n = link_needs(input);
-    if input.len() < n {
-        return 0;
-    }
-    n
+    there(input, link_needs(input))
 }
 
-// What a walk waits for where the record at the front of what is left has so many bytes, or none is whole (0): a whole
-// record waits for room, anything else for a read.
-pub fn due_for(n: usize) -> Due
-    ensures { result ≡ due_for n }
+// What a walk waits for, by how many bytes the record at the front of what is left has, where one is whole: that waits for
+// room, anything else for a read.
+#[tactic(auto, using(std::proofs::lemmas::Bool::Decides::nat_tests), unfolding(crate::specs::Walks::due_for))]
+pub fn due_for(front: Option<usize>) -> Due
+    ensures { result ≡ due_for front }
 {
-    if n == 0 {
-        return Due::Read;
+    match front {
+        None => Due::Read,
+        Some(_) => Due::Room,
     }
-    Due::Room
+}
+
+// Walks through the whole records at the front of the input: the step is called for each PDU, with what is kept so far and with
+// what is lent.
+fn walk<C, F: Fn(C, &mut [u8], &[u8]) -> C>(
+    course: C,
+    lent: &mut [u8],
+    input: &[u8],
+    step: F,
+) -> Walked<C>
+    requires { F.IsAlwaysCallable step }
+    ensures taken_value { (result.taken ≡ size_of (records_of whole_of input.now)) × (result.taken ≤ length input.now) }
+    ensures calls { FoldsTo (Calls (F.post step)) (course, lent.old) (pdus_in input.now) (result.course, lent.new) }
+{
+    let mut next = course;
+    let mut rest = input;
+    // Records have varying sizes: no iterator of the library's goes from one to the next.
+    while let Some(n) = whole(rest) {
+        let (record, behind) = rest.split_at(n);
+        next = step(next, lent, &record[LENGTH..]);
+        rest = behind;
+    }
+    Walked {
+        course: next,
+        taken: input.len() - rest.len(),
+    }
+}
+
+// Takes the whole records of the input that is there, what was left and behind it what was read: the step is called for each PDU.
+// What is left then comes to the input's front.
+pub fn turn<C, F: Fn(C, &mut [u8], &[u8]) -> C>(
+    course: C,
+    lent: &mut [u8],
+    input: &mut [u8],
+    step: F,
+) -> Stand<C>
+    requires { F.IsAlwaysCallable step }
+    ensures calls { FoldsTo (Calls (F.post step)) (course, lent.old) (pdus_in input.old) (result.course, lent.new) }
+    ensures had { (result.had ≡ length (rest_of whole_of input.old)) × (result.had ≤ length input.old) }
+    ensures input_after { input.new ≡ laid input.old 0 (rest_of whole_of input.old) }
+{
+    let Walked { course, taken } = walk(course, lent, input, step);
+    lists::to_front(input, taken);
+    Stand {
+        course,
+        had: input.len() - taken,
+    }
 }

@@ -1,6 +1,8 @@
 -- The rule named first is the first row that holds, and its number is the refusal's. Which rule of reading's it is can be told
 -- by the refusal and few of the bytes.
 -- Assumes nothing.
+use Rattle.std.proofs.Common.{Option, None, Some}
+use Rattle.std.specs.Bool.{then_some}
 use Prim.Native.Nat.{ℕ, zero, suc, ◌/◌, ◌%◌, ◌≤◌, ◌<◌}
 use native.Mathlib.Omega.{arith}
 use mathlib.Core.Path.{◌≡◌, refl, sym, ap, ◌∙◌}
@@ -32,8 +34,6 @@ use Rattle.table.specs.Table.{number_place, found_in}
 use Rattle.steps.specs.Rows.{stage_of, rows_of}
 use Rattle.rules.specs.declared.Rule.{Rule}
 use Rattle.rules.specs.declared.Rule.TheVariants.{Empty, Long, Command, CbId, LengthWidth, Ended, Pad, Version, LeftOver}
-use Rattle.rules.specs.declared.Broken.{Broken}
-use Rattle.rules.specs.declared.Broken.TheVariants.{NoRule, Broke}
 use Rattle.rules.specs.Rules.{refusal_of, names_of_tail, value_name, names_of_fields, names_of_layout, reading_names, names_of, Named}
 use Rattle.rules.specs.Rules.{beside, reading_rules, step_rules, the_rules, first_of, verdict_by}
 
@@ -78,8 +78,8 @@ steps_agree t list (CapsResponse version) = (refl, tt)
 steps_agree t list (Refused why) = tt
 
 -- so the first name is that of the first row, in one list and in two behind one another
-here : (t : Bool) (name : Rule) (why : Refusal) (v : Verdict) (b : Broken) → refusal_of name ≡ why → v ≡ verdict_by b
-    → cond t (refused_with why) v ≡ verdict_by (cond t (Broke name) b)
+here : (t : Bool) (name : Rule) (why : Refusal) (v : Verdict) (b : Option Rule) → refusal_of name ≡ why → v ≡ verdict_by b
+    → cond t (refused_with why) v ≡ verdict_by (cond t (Some name) b)
 unfolding verdict_by
 here true name why v b e f = ap refused_with (sym e)
 here false name why v b e f = f
@@ -110,7 +110,7 @@ verdict_of_rules t list pdu = two_lists _ _ _ _ (reading_agrees pdu) (steps_agre
 
 -- ---- reading's rules decide where reading refuses, else those of the steps
 
-none_named : (names : List Rule) (rows : List Row) → first_held rows ≡ fine → first_of (beside names rows) ≡ NoRule
+none_named : (names : List Rule) (rows : List Row) → first_held rows ≡ fine → first_of (beside names rows) ≡ None
 unfolding first_held first_of beside
 none_named [] rows e = refl
 none_named (name ∷ names) [] e = refl
@@ -118,19 +118,19 @@ none_named (name ∷ names) (r ∷ rows) e = go r.holds e (none_named names rows
   where
     go :
         (t : Bool) → cond t (refused_with r.refusal) (first_held rows) ≡ fine
-        → (first_held rows ≡ fine → first_of (beside names rows) ≡ NoRule)
-        → cond t (Broke name) (first_of (beside names rows)) ≡ NoRule
+        → (first_held rows ≡ fine → first_of (beside names rows) ≡ None)
+        → cond t (Some name) (first_of (beside names rows)) ≡ None
     go true e later = cc
     go false e later = later e
 
-first_behind : (xs ys : List Named) → first_of xs ≡ NoRule → first_of (xs ++ ys) ≡ first_of ys
+first_behind : (xs ys : List Named) → first_of xs ≡ None → first_of (xs ++ ys) ≡ first_of ys
 unfolding first_of
 first_behind [] ys e = refl
 first_behind (x ∷ xs) ys e = go x.row.holds e (first_behind xs ys)
   where
     go :
-        (t : Bool) → cond t (Broke x.name) (first_of xs) ≡ NoRule → (first_of xs ≡ NoRule → first_of (xs ++ ys) ≡ first_of ys)
-        → cond t (Broke x.name) (first_of (xs ++ ys)) ≡ first_of ys
+        (t : Bool) → cond t (Some x.name) (first_of xs) ≡ None → (first_of xs ≡ None → first_of (xs ++ ys) ≡ first_of ys)
+        → cond t (Some x.name) (first_of (xs ++ ys)) ≡ first_of ys
     go true e later = cc
     go false e later = later e
 
@@ -163,7 +163,7 @@ found_stage n t f e = rw e
 -- ---- which rule it is, where the refusal is known
 
 -- the first rule, where the first row that holds is of a refusal
-abbrev pub First : Refusal → Broken → List Rule → List Row → Type 0
+abbrev pub First : Refusal → Option Rule → List Rule → List Row → Type 0
 First why b names rows = first_held rows ≡ refused_with why → b ≡ first_of (beside names rows)
 
 -- two refusals that differ
@@ -175,20 +175,20 @@ differ other why apart e = eqb-false (refusal_number other) (refusal_number why)
 
 module _ (why : Refusal) (names : List Rule) (rows : List Row) where
   -- a row that holds is it
-  held : (name : Rule) (other : Refusal) (t : Bool) → t ≡ true → First why (Broke name) (name ∷ names) (row other t ∷ rows)
+  held : (name : Rule) (other : Refusal) (t : Bool) → t ≡ true → First why (Some name) (name ∷ names) (row other t ∷ rows)
   unfolding first_held first_of beside
   held name other t e h = rw e
 
   -- one that doesn't is passed
   passed :
-      (b : Broken) (name : Rule) (other : Refusal) (t : Bool) → t ≡ false → First why b names rows
+      (b : Option Rule) (name : Rule) (other : Refusal) (t : Bool) → t ≡ false → First why b names rows
       → First why b (name ∷ names) (row other t ∷ rows)
   unfolding first_held first_of beside
   passed b name other t e later h = rw e (later (rw e at h))
 
   -- one of another refusal doesn't hold
   other_row :
-      (b : Broken) (name : Rule) (other : Refusal) (t : Bool) → Apart other why → (t ≡ false → First why b names rows)
+      (b : Option Rule) (name : Rule) (other : Refusal) (t : Bool) → Apart other why → (t ≡ false → First why b names rows)
       → First why b (name ∷ names) (row other t ∷ rows)
   unfolding first_held first_of beside
   other_row b name other true apart later h = absurd (differ other why apart h)
@@ -196,20 +196,20 @@ module _ (why : Refusal) (names : List Rule) (rows : List Row) where
 
   -- one with the name that is sought may hold or not
   named_row :
-      (name : Rule) (other : Refusal) (t : Bool) → (t ≡ false → First why (Broke name) names rows)
-      → First why (Broke name) (name ∷ names) (row other t ∷ rows)
+      (name : Rule) (other : Refusal) (t : Bool) → (t ≡ false → First why (Some name) names rows)
+      → First why (Some name) (name ∷ names) (row other t ∷ rows)
   unfolding first_held first_of beside
   named_row name other true later h = refl
   named_row name other false later h = later refl h
 
-none_left : (why : Refusal) (b : Broken) (names : List Rule) → First why b names []
+none_left : (why : Refusal) (b : Option Rule) (names : List Rule) → First why b names []
 unfolding first_held
 none_left why b names h = let z : ◌≡◌ {A = ℕ} 0 1 = cc in absurd (omega arith)
 
 -- fields hold only with 2, and the name Ended, or with 5
 ended_fields :
     (before : ℕ) (rest : List ℕ) (fs : List Field) (t : Tail)
-    → First CutShort (Broke Ended) (names_of_fields before fs t) (rows_of_fields rest fs t)
+    → First CutShort (Some Ended) (names_of_fields before fs t) (rows_of_fields rest fs t)
 unfolding names_of_fields rows_of_fields names_of_tail rows_of_tail
 ended_fields before rest [] no_more = other_row CutShort _ _ _ _ _ _ refl (λ e. none_left CutShort _ [])
 ended_fields before rest [] any_bytes = none_left CutShort _ []
@@ -219,7 +219,7 @@ ended_fields before rest (f ∷ fs) t =
     named_row CutShort _ _ _ _ _
     (λ e. other_row CutShort _ _ _ _ _ _ refl (λ g. ended_fields (suc before) (drop f.width rest) fs t))
 
-module _ (why : Refusal) (b : Broken) (no_cut : Apart CutShort why) (no_field : Apart BadField why) where
+module _ (why : Refusal) (b : Option Rule) (no_cut : Apart CutShort why) (no_field : Apart BadField why) where
   no_fields :
       (before : ℕ) (rest : List ℕ) (fs : List Field) (t : Tail) → First why b (names_of_fields before fs t) (rows_of_fields rest fs t)
   unfolding names_of_fields rows_of_fields names_of_tail rows_of_tail
@@ -234,7 +234,7 @@ module _ (why : Refusal) (b : Broken) (no_cut : Apart CutShort why) (no_field : 
 -- fields of any value hold with 5 only where bytes are left over
 any_fields :
     (ws : List ℕ) (before : ℕ) (rest : List ℕ) (t : Tail)
-    → First BadField (Broke LeftOver) (names_of_fields before (map any ws) t) (rows_of_fields rest (map any ws) t)
+    → First BadField (Some LeftOver) (names_of_fields before (map any ws) t) (rows_of_fields rest (map any ws) t)
 unfolding names_of_fields rows_of_fields names_of_tail rows_of_tail
 any_fields [] before rest no_more = named_row BadField _ _ _ _ _ (λ e. none_left BadField _ [])
 any_fields [] before rest any_bytes = none_left BadField _ []
@@ -247,14 +247,14 @@ any_fields (w ∷ ws) before rest t =
 -- ---- which of reading's rules it is
 
 -- the first of reading's rules, where reading refuses so
-abbrev pub Leads : Refusal → Broken → List ℕ → Type 0
+abbrev pub Leads : Refusal → Option Rule → List ℕ → Type 0
 Leads why b pdu = first_held (reading_rows true pdu) ≡ refused_with why → b ≡ first_of (reading_rules pdu)
 
-pub is_empty_law : (why : Refusal) (pdu : List ℕ) → length pdu ≡ 0 → Leads why (Broke Empty) pdu
+pub is_empty_law : (why : Refusal) (pdu : List ℕ) → length pdu ≡ 0 → Leads why (Some Empty) pdu
 unfolding reading_rules reading_names names_of_layout reading_rows rows_of_bytes
 is_empty_law why pdu e = held why _ _ _ _ _ (eq-eqb (length pdu) 0 e)
 
-pub is_ended : (pdu : List ℕ) → (length pdu ≡ 0 → ⊥) → Leads CutShort (Broke Ended) pdu
+pub is_ended : (pdu : List ℕ) → (length pdu ≡ 0 → ⊥) → Leads CutShort (Some Ended) pdu
 unfolding reading_rules reading_names names_of_layout reading_rows rows_of_bytes
 is_ended pdu some =
     passed CutShort _ _ _ _ _ _ (ne_eqb (length pdu) 0 some)
@@ -263,7 +263,7 @@ is_ended pdu some =
     (λ f. other_row CutShort _ _ _ _ _ _ refl
     (λ g. other_row CutShort _ _ _ _ _ _ refl (λ h. ended_fields 0 _ _ _)))))
 
-pub is_long : (pdu : List ℕ) → Leads TooLong (Broke Long) pdu
+pub is_long : (pdu : List ℕ) → Leads TooLong (Some Long) pdu
 unfolding reading_rules reading_names names_of_layout reading_rows rows_of_bytes
 is_long pdu =
     other_row TooLong _ _ _ _ _ _ refl
@@ -272,7 +272,7 @@ is_long pdu =
     (λ f. other_row TooLong _ _ _ _ _ _ refl
     (λ g. other_row TooLong _ _ _ _ _ _ refl (λ h. no_fields TooLong _ refl refl 0 _ _ _)))))
 
-pub is_command : (pdu : List ℕ) → Leads NoCommand (Broke Command) pdu
+pub is_command : (pdu : List ℕ) → Leads NoCommand (Some Command) pdu
 unfolding reading_rules reading_names names_of_layout reading_rows rows_of_bytes
 is_command pdu =
     other_row NoCommand _ _ _ _ _ _ refl
@@ -283,7 +283,7 @@ is_command pdu =
 
 -- reading refuses with no other than these and 5
 pub never :
-    (why : Refusal) (b : Broken) (pdu : List ℕ) → Apart CutShort why → Apart TooLong why → Apart NoCommand why → Apart BadField why
+    (why : Refusal) (b : Option Rule) (pdu : List ℕ) → Apart CutShort why → Apart TooLong why → Apart NoCommand why → Apart BadField why
     → Leads why b pdu
 unfolding reading_rules reading_names names_of_layout reading_rows rows_of_bytes
 never why b pdu no_cut no_length no_command no_field =
@@ -315,10 +315,10 @@ unfolding value_of
 version_is pdu = ap little (take_all 4 (take 2 (drop 2 pdu)) (simp length-take (omega arith)))
 
 -- the fields' rules alone
-abbrev InFields : Broken → List ℕ → Layout → Type 0
+abbrev InFields : Option Rule → List ℕ → Layout → Type 0
 InFields b pdu l = First BadField b (names_of_fields 0 l.fields l.tail) (rows_of_fields (drop 1 pdu) l.fields l.tail)
 
-pub is_cb_id : (pdu : List ℕ) → bad_cb_id (cmd_of pdu) (cb_id_of pdu) ≡ true → Leads BadField (Broke CbId) pdu
+pub is_cb_id : (pdu : List ℕ) → bad_cb_id (cmd_of pdu) (cb_id_of pdu) ≡ true → Leads BadField (Some CbId) pdu
 unfolding reading_rules reading_names names_of_layout reading_rows rows_of_bytes
 is_cb_id pdu e =
     other_row BadField _ _ _ _ _ _ refl
@@ -326,7 +326,7 @@ is_cb_id pdu e =
     (λ g. other_row BadField _ _ _ _ _ _ refl (λ h. held BadField _ _ _ _ _ e)))
 
 module _ (pdu : List ℕ) (good : bad_cb_id (cmd_of pdu) (cb_id_of pdu) ≡ false) where
-  pub is_width : bad_width pdu ≡ true → Leads BadField (Broke LengthWidth) pdu
+  pub is_width : bad_width pdu ≡ true → Leads BadField (Some LengthWidth) pdu
   unfolding reading_rules reading_names names_of_layout reading_rows rows_of_bytes
   is_width e =
       other_row BadField _ _ _ _ _ _ refl
@@ -334,7 +334,7 @@ module _ (pdu : List ℕ) (good : bad_cb_id (cmd_of pdu) (cb_id_of pdu) ≡ fals
       (λ g. other_row BadField _ _ _ _ _ _ refl (λ h. passed BadField _ _ _ _ _ _ good (held BadField _ _ _ _ _ e))))
 
   in_fields :
-      (b : Broken) → bad_width pdu ≡ false
+      (b : Option Rule) → bad_width pdu ≡ false
       → ((ltb (cmd_of pdu) CREATE || ltb CAPABILITIES (cmd_of pdu)) ≡ false
       → InFields b pdu (layout_of true (cmd_of pdu) (middle_of pdu) (cb_id_of pdu) (version_of pdu)))
       → Leads BadField b pdu
@@ -346,13 +346,13 @@ module _ (pdu : List ℕ) (good : bad_cb_id (cmd_of pdu) (cb_id_of pdu) ≡ fals
       (λ h. passed BadField _ _ _ _ _ _ good (passed BadField _ _ _ _ _ _ e (later h)))))
 
   -- all but Capabilities have fields of any value
-  pub is_left_over : bad_width pdu ≡ false → (cmd_of pdu ≡ CAPABILITIES → ⊥) → Leads BadField (Broke LeftOver) pdu
+  pub is_left_over : bad_width pdu ≡ false → (cmd_of pdu ≡ CAPABILITIES → ⊥) → Leads BadField (Some LeftOver) pdu
   unfolding layout_of
   is_left_over e other =
       let w = width_of (cb_id_of pdu) in
       let rest = drop 1 pdu in
-      let P = InFields (Broke LeftOver) pdu in
-      in_fields (Broke LeftOver) e
+      let P = InFields (Some LeftOver) pdu in
+      in_fields (Some LeftOver) e
       (λ f. choice P (eqb (cmd_of pdu) CREATE) (λ g. any_fields (w ∷ []) 0 rest a_name)
       (λ g1. choice P (eqb (cmd_of pdu) DATA_FIRST) (λ g. any_fields (w ∷ width_of (middle_of pdu) ∷ []) 0 rest any_bytes)
       (λ g2. choice P (eqb (cmd_of pdu) DATA) (λ g. any_fields (w ∷ []) 0 rest any_bytes)
@@ -364,15 +364,15 @@ module _ (pdu : List ℕ) (good : bad_cb_id (cmd_of pdu) (cb_id_of pdu) ≡ fals
   -- ---- Capabilities
   module _ (caps : cmd_of pdu ≡ CAPABILITIES) where
     in_caps :
-        (b : Broken) → InFields b pdu (layout (pad ∷ version_field ∷ charges (version_of pdu)) no_more) → Leads BadField b pdu
+        (b : Option Rule) → InFields b pdu (layout (pad ∷ version_field ∷ charges (version_of pdu)) no_more) → Leads BadField b pdu
     unfolding layout_of
     in_caps b later = in_fields b (rw caps) (λ e. rw caps later)
 
     -- Pad or, behind it, the Version isn't ended: where that isn't the first, Pad is
-    pub short_caps : length pdu < 4 → Leads BadField (Broke Pad) pdu
+    pub short_caps : length pdu < 4 → Leads BadField (Some Pad) pdu
     unfolding names_of_fields rows_of_fields value_name
     short_caps h =
-        in_caps (Broke Pad)
+        in_caps (Some Pad)
         (other_row BadField _ _ _ _ _ _ refl
         (λ e. named_row BadField _ _ _ _ _
         (λ f. other_row BadField _ _ _ _ _ _ refl
@@ -383,10 +383,10 @@ module _ (pdu : List ℕ) (good : bad_cb_id (cmd_of pdu) (cb_id_of pdu) ≡ fals
       unfolding little
       pad_is = rw (drop-cons pdu 1 0 (omega arith)) (omega arith)
 
-      pub is_pad : (get_or pdu 1 0 ≡ 0 → ⊥) → Leads BadField (Broke Pad) pdu
+      pub is_pad : (get_or pdu 1 0 ≡ 0 → ⊥) → Leads BadField (Some Pad) pdu
       unfolding names_of_fields rows_of_fields value_name
       is_pad h =
-          in_caps (Broke Pad)
+          in_caps (Some Pad)
           (other_row BadField _ _ _ _ _ _ refl (λ e. held BadField _ _ _ _ _ (rw (pad_is, ne_eqb (get_or pdu 1 0) 0 h))))
 
       module _ (zero-pad : get_or pdu 1 0 ≡ 0) where
@@ -394,7 +394,7 @@ module _ (pdu : List ℕ) (good : bad_cb_id (cmd_of pdu) (cb_id_of pdu) ≡ fals
         bad_version = ltb (version_of pdu) 1 || ltb 3 (version_of pdu)
 
         behind_pad :
-            (b : Broken)
+            (b : Option Rule)
             → First BadField b (Version ∷ names_of_fields 2 (charges (version_of pdu)) no_more)
             (row BadField (not (not bad_version)) ∷ rows_of_fields (drop 4 pdu) (charges (version_of pdu)) no_more)
             → Leads BadField b pdu
@@ -405,27 +405,27 @@ module _ (pdu : List ℕ) (good : bad_cb_id (cmd_of pdu) (cb_id_of pdu) ≡ fals
             (λ e. passed BadField _ _ _ _ _ _ (rw (pad_is, zero-pad))
             (other_row BadField _ _ _ _ _ _ refl (λ f. rw (drop-drop 1 1 pdu, drop-drop 2 2 pdu) later))))
 
-        pub is_version : bad_version ≡ true → Leads BadField (Broke Version) pdu
-        is_version e = behind_pad (Broke Version) (held BadField _ _ _ _ _ (rw e))
+        pub is_version : bad_version ≡ true → Leads BadField (Some Version) pdu
+        is_version e = behind_pad (Some Version) (held BadField _ _ _ _ _ (rw e))
 
-        pub left_in_caps : bad_version ≡ false → Leads BadField (Broke LeftOver) pdu
+        pub left_in_caps : bad_version ≡ false → Leads BadField (Some LeftOver) pdu
         left_in_caps e =
-            behind_pad (Broke LeftOver)
+            behind_pad (Some LeftOver)
             (passed BadField _ _ _ _ _ _ (rw e)
-            (choice (λ fs. First BadField (Broke LeftOver) (names_of_fields 2 fs no_more) (rows_of_fields (drop 4 pdu) fs no_more))
+            (choice (λ fs. First BadField (Some LeftOver) (names_of_fields 2 fs no_more) (rows_of_fields (drop 4 pdu) fs no_more))
             (eqb (version_of pdu) 1) (λ f. any_fields [] 2 (drop 4 pdu) no_more)
             (λ f. any_fields (2 ∷ 2 ∷ 2 ∷ 2 ∷ []) 2 (drop 4 pdu) no_more)))
 
 -- ---- Pad and Version are named of Capabilities alone
 
-module _ (pdu : List ℕ) (rule : Rule) (is-five : refusal_of rule ≡ BadField) (first : first_of (reading_rules pdu) ≡ Broke rule) where
+module _ (pdu : List ℕ) (rule : Rule) (is-five : refusal_of rule ≡ BadField) (first : first_of (reading_rules pdu) ≡ Some rule) where
   refused_so : first_held (reading_rows true pdu) ≡ refused_with BadField
   unfolding reading_rules verdict_by
   refused_so = one_list _ _ (reading_agrees pdu) ∙ ap verdict_by first ∙ ap refused_with is-five
 
   -- else it is another
-  same_rule : (other : Rule) → Leads BadField (Broke other) pdu → rule ≡ other
-  same_rule other leads = let same : Broke rule ≡ Broke other = sym (leads refused_so ∙ first) in cc
+  same_rule : (other : Rule) → Leads BadField (Some other) pdu → rule ≡ other
+  same_rule other leads = let same : Some rule ≡ Some other = sym (leads refused_so ∙ first) in cc
 
   of_capabilities : rule ≢ CbId → rule ≢ LengthWidth → rule ≢ LeftOver → cmd_of pdu ≡ CAPABILITIES
   of_capabilities a b c = go (eqb (cmd_of pdu) CAPABILITIES) refl (bad_cb_id (cmd_of pdu) (cb_id_of pdu)) refl (bad_width pdu) refl
@@ -438,14 +438,19 @@ module _ (pdu : List ℕ) (rule : Rule) (is-five : refusal_of rule ≡ BadField)
       go false e false f true g = absurd (b (same_rule LengthWidth (is_width pdu f g)))
       go false e false f false g = absurd (c (same_rule LeftOver (is_left_over pdu f g (eqb-false (cmd_of pdu) CAPABILITIES e))))
 
-pub pad_of_capabilities : (pdu : List ℕ) → first_of (reading_rules pdu) ≡ Broke Pad → get_or pdu 0 0 / 16 ≡ CAPABILITIES
+pub pad_of_capabilities : (pdu : List ℕ) → first_of (reading_rules pdu) ≡ Some Pad → get_or pdu 0 0 / 16 ≡ CAPABILITIES
 unfolding refusal_of
 pad_of_capabilities pdu e =
     of_capabilities pdu Pad refl e (λ f. let z : ◌≡◌ {A = ℕ} 0 1 = cc in omega arith)
     (λ f. let z : ◌≡◌ {A = ℕ} 0 1 = cc in omega arith) (λ f. let z : ◌≡◌ {A = ℕ} 0 1 = cc in omega arith)
 
-pub version_of_capabilities : (pdu : List ℕ) → first_of (reading_rules pdu) ≡ Broke Version → get_or pdu 0 0 / 16 ≡ CAPABILITIES
+pub version_of_capabilities : (pdu : List ℕ) → first_of (reading_rules pdu) ≡ Some Version → get_or pdu 0 0 / 16 ≡ CAPABILITIES
 unfolding refusal_of
 version_of_capabilities pdu e =
     of_capabilities pdu Version refl e (λ f. let z : ◌≡◌ {A = ℕ} 0 1 = cc in omega arith)
     (λ f. let z : ◌≡◌ {A = ℕ} 0 1 = cc in omega arith) (λ f. let z : ◌≡◌ {A = ℕ} 0 1 = cc in omega arith)
+
+-- a rule that is broken where a test holds, and else none
+pub where_held : (t : Bool) (rule : Rule) → then_some t rule ≡ cond t (Some rule) None
+where_held true rule = refl
+where_held false rule = refl

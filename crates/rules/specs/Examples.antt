@@ -1,12 +1,11 @@
 -- PDUs from the server that reading refuses, each with the first rule that it breaks.
-use Rattle.std.specs.Prelude.{ℕ, ◌≡◌, List, [], ◌∷◌}
+use Rattle.std.specs.Prelude.{ℕ, ◌≡◌, Some, List, [], ◌∷◌}
 use Rattle.rules.specs.declared.Rule.{Rule}
 use Rattle.rules.specs.declared.Rule.TheVariants.{Empty, Command, CbId, LengthWidth, Ended, Pad, Version, LeftOver}
-use Rattle.rules.specs.declared.Broken.TheVariants.{Broke}
 use Rattle.rules.specs.Rules.{reading_rules, first_of}
 
 abbrev pub Breaks : Rule → List ℕ → Type 0
-Breaks rule pdu = first_of (reading_rules pdu) ≡ Broke rule
+Breaks rule pdu = first_of (reading_rules pdu) ≡ Some rule
 
 pub record FirstBroken : Type 0 where
   pub empty : Breaks Empty []

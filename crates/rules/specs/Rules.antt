@@ -1,7 +1,7 @@
 -- The refusals' rules by name: "the first rule in the order that held". One list: each rule's name beside its row, which has the
 -- refusal and the condition. The rows are reading's (`reading_rows`) and the steps' (`rows_of`); here stand the names alone, in the
 -- order of the rows.
-use Rattle.std.specs.Prelude.{ℕ, zero, suc, ◌/◌, ◌%◌, Bool, true, cond, List, [], ◌∷◌, ◌++◌, take, drop, get_or}
+use Rattle.std.specs.Prelude.{ℕ, zero, suc, ◌/◌, ◌%◌, Bool, true, cond, Option, None, Some, List, [], ◌∷◌, ◌++◌, take, drop, get_or}
 use Rattle.paper.specs.declared.Refusal.{Refusal}
 use Rattle.paper.specs.declared.Refusal.TheVariants.{CutShort, TooLong, NoCommand, BadField, BadList, WrongTime}
 use Rattle.paper.specs.declared.Refusal.TheVariants.{AlreadyOpen, IsSpoiled, StillJoining}
@@ -19,8 +19,6 @@ use Rattle.rules.specs.declared.Rule.{Rule}
 use Rattle.rules.specs.declared.Rule.TheVariants.{Empty, Long, Command, CbId, LengthWidth, Ended, Pad, Version, LeftOver}
 use Rattle.rules.specs.declared.Rule.TheVariants.{ReadyAlready, NotReady, List as BadNames, OpenAlready, NotOpen, Spoiled}
 use Rattle.rules.specs.declared.Rule.TheVariants.{Joining, OverLimit, PastLength}
-use Rattle.rules.specs.declared.Broken.{Broken}
-use Rattle.rules.specs.declared.Broken.TheVariants.{NoRule, Broke}
 
 -- ---- the names, each with its refusal
 
@@ -110,14 +108,14 @@ unfoldable pub the_rules : Table → List ℕ → List ℕ → List Named
 the_rules t list pdu = reading_rules pdu ++ step_rules t list (read_pdu true pdu)
 
 -- "the first that holds"
-unfoldable pub first_of : List Named → Broken
-first_of [] = NoRule
-first_of (x ∷ rest) = cond x.row.holds (Broke x.name) (first_of rest)
+unfoldable pub first_of : List Named → Option Rule
+first_of [] = None
+first_of (x ∷ rest) = cond x.row.holds (Some x.name) (first_of rest)
 
 -- what the first rule that holds says of the answer: nothing, or the refusal beside its name
-unfoldable pub verdict_by : Broken → Verdict
-verdict_by NoRule = fine
-verdict_by (Broke rule) = refused_with (refusal_of rule)
+unfoldable pub verdict_by : Option Rule → Verdict
+verdict_by None = fine
+verdict_by (Some rule) = refused_with (refusal_of rule)
 
 -- ---- the names as text, each ended by an LF
 

@@ -1,6 +1,6 @@
 // The refusals' rules by name: which is the first in the order that holds for a PDU, at a table and with a listener list.
 //
-// `first` says it, and `name` lays a rule's name as text. Both take anything, and neither refuses. A PDU that `receive` accepts
+// `first` says it, `text` is a rule's name as text, and `name` lays that. They take anything, and none refuses. A PDU that `receive` accepts
 // breaks no rule; one that it refuses breaks the rule whose number it answers, but for refusal 1, which is the call's.
 #![tactic(auto)]
 
@@ -15,7 +15,6 @@ ghost use Rattle.reading.specs.declared.Pdu.TheVariants.{CapsRequest, CreateRequ
 ghost use Rattle.table.specs.Table.{number_place};
 ghost use Rattle.steps.specs.Rows.{stage_of, is_spoiled, is_joining, passes};
 ghost use Rattle.rules.specs.Rules.{reading_rules, step_rules, the_rules, first_of, NAME_MAX, name_text};
-ghost use Rattle.rules.specs.declared.Broken.TheVariants.{Broke as IsBroken};
 
 use channel::Stage;
 use paper::{CAPABILITIES, DATA_FIRST, MESSAGE_MAX, PARTS, Refusal};
@@ -63,218 +62,191 @@ pub enum Rule {
     PastLength,
 }
 
-// The first rule that holds, or that none does.
-#[derive(Clone, Copy)]
-pub enum Broken {
-    NoRule,
-    Broke(Rule),
-}
-
 // Whether a cbId is refused.
 fn bad_cb_id(cmd: u8, cb_id: u8) -> bool
     ensures { result ≡ bad_cb_id cmd cb_id }
 {
     if cmd == CAPABILITIES {
-        return cb_id != 0;
+        cb_id != 0
+    } else {
+        cb_id == 3
     }
-    cb_id == 3
 }
 
 // The rule of a PDU that reading refuses with 5.
 fn field_rule(pdu: &[u8]) -> Rule
     ensures { first_held (reading_rows true pdu.now) ≡ refused_with BadField
-        → IsBroken result ≡ first_of (reading_rules pdu.now) }
+        → Some result ≡ first_of (reading_rules pdu.now) }
 {
-    if pdu.len() == 0 {
+    if pdu.is_empty() {
         return Rule::Empty;
     }
     let cmd = pdu[0] / 16;
     if bad_cb_id(cmd, pdu[0] % 4) {
         return Rule::CbId;
     }
-    if cmd == DATA_FIRST {
-        if pdu[0] / 4 % 4 == 3 {
-            return Rule::LengthWidth;
-        }
+    if cmd == DATA_FIRST && pdu[0] / 4 % 4 == 3 {
+        return Rule::LengthWidth;
     }
     if cmd != CAPABILITIES {
         return Rule::LeftOver;
     }
-    if pdu.len() < 4 {
-        return Rule::Pad;
-    }
-    if pdu[1] != 0 {
+    if pdu.len() < 4 || pdu[1] != 0 {
         return Rule::Pad;
     }
     let version = numbers::number(&pdu[2..4]);
-    if version < 1 {
-        return Rule::Version;
-    }
-    if 3 < version {
+    if version < 1 || 3 < version {
         return Rule::Version;
     }
     Rule::LeftOver
 }
 
 // The rule of a PDU that reading refuses.
-fn reading_rule(pdu: &[u8], why: Refusal) -> Broken
+fn reading_rule(pdu: &[u8], why: Refusal) -> Option<Rule>
     ensures { first_held (reading_rows true pdu.now) ≡ refused_with why
         → result ≡ first_of (reading_rules pdu.now) }
 {
     match why {
         Refusal::CutShort => {
-            if pdu.len() == 0 {
-                return Broken::Broke(Rule::Empty);
+            if pdu.is_empty() {
+                return Some(Rule::Empty);
             }
-            Broken::Broke(Rule::Ended)
+            Some(Rule::Ended)
         }
-        Refusal::TooLong => Broken::Broke(Rule::Long),
-        Refusal::NoCommand => Broken::Broke(Rule::Command),
-        Refusal::BadField => Broken::Broke(field_rule(pdu)),
+        Refusal::TooLong => Some(Rule::Long),
+        Refusal::NoCommand => Some(Rule::Command),
+        Refusal::BadField => Some(field_rule(pdu)),
         // Reading refuses with no other.
-        _ => Broken::NoRule,
+        _ => None,
     }
 }
 
 // A Capabilities request that was read.
-fn caps_rule(table: Table) -> Broken
+fn caps_rule(table: Table) -> Option<Rule>
     ensures { (list : List ℕ) (version : ℕ) (charges : Charges)
         → result ≡ first_of (step_rules table list (CapsRequest version charges)) }
 {
-    if table.ready {
-        return Broken::Broke(Rule::ReadyAlready);
-    }
-    Broken::NoRule
+    table.ready.then_some(Rule::ReadyAlready)
 }
 
 // A Close that was read.
-fn close_rule(table: Table) -> Broken
+fn close_rule(table: Table) -> Option<Rule>
     ensures { (list : List ℕ) (n : ℕ) → result ≡ first_of (step_rules table list (Close n)) }
 {
-    if !table.ready {
-        return Broken::Broke(Rule::NotReady);
-    }
-    Broken::NoRule
+    (!table.ready).then_some(Rule::NotReady)
 }
 
 // A Create request that was read.
-fn create_rule(table: Table, list: &[u8], number: u32) -> Broken
+fn create_rule(table: Table, list: &[u8], number: u32) -> Option<Rule>
     ensures { (class : ℕ) (name : Extent)
         → result ≡ first_of (step_rules table list.now (CreateRequest number class name)) }
 {
     if !table.ready {
-        return Broken::Broke(Rule::NotReady);
+        return Some(Rule::NotReady);
     }
     if !listeners::good(list) {
-        return Broken::Broke(Rule::List);
+        return Some(Rule::List);
     }
     let found = table::find_number(table, number);
     if found.place < PARTS {
-        return Broken::Broke(Rule::OpenAlready);
+        return Some(Rule::OpenAlready);
     }
-    Broken::NoRule
+    None
 }
 
 // Whether a stage is spoiled.
+#[tactic(auto, unfolding(steps::specs::Rows::is_spoiled))]
 pub fn is_spoiled(stage: Stage) -> bool
     ensures { result ≡ is_spoiled stage }
 {
-    match stage {
-        Stage::Idle => false,
-        Stage::Joining { wanted: _, held: _ } => false,
-        Stage::Spoiled => true,
-    }
+    matches!(stage, Stage::Spoiled)
 }
 
 // Whether a message is being joined.
+#[tactic(auto, unfolding(steps::specs::Rows::is_joining))]
 fn is_joining(stage: Stage) -> bool
     ensures { result ≡ is_joining stage }
 {
-    match stage {
-        Stage::Idle => false,
-        Stage::Joining { wanted: _, held: _ } => true,
-        Stage::Spoiled => false,
-    }
+    matches!(stage, Stage::Joining { .. })
 }
 
 // Whether a Data's block of so many bytes is longer than what is still to come.
+#[tactic(auto, unfolding(steps::specs::Rows::passes))]
 fn is_past(stage: Stage, len: usize) -> bool
     ensures { result ≡ passes stage len }
 {
     match stage {
         Stage::Idle => false,
-        Stage::Joining { wanted, held } => {
-            let had = lists::lesser(held as usize, wanted as usize);
-            wanted as usize - had < len
-        }
+        Stage::Joining { wanted, held } => { (wanted.saturating_sub(held) as usize) < len }
         Stage::Spoiled => false,
     }
 }
 
 // A Data First of a Length, with a block of so many bytes, on an open channel: the rules behind the two on what is open.
-fn first_in(stage: Stage, length: u32, len: usize) -> Broken
+fn first_in(stage: Stage, length: u32, len: usize) -> Option<Rule>
     ensures { (t : Table) (list : List ℕ) (n : ℕ) (block : Extent) → stage_of t n ≡ stage → block.len ≡ len
         → result ≡ first_of (drop 2 (step_rules t list (DataFirst n length block))) }
 {
     if is_spoiled(stage) {
-        return Broken::Broke(Rule::Spoiled);
+        return Some(Rule::Spoiled);
     }
     if is_joining(stage) {
-        return Broken::Broke(Rule::Joining);
+        return Some(Rule::Joining);
     }
     if MESSAGE_MAX < length as usize {
-        return Broken::Broke(Rule::OverLimit);
+        return Some(Rule::OverLimit);
     }
     if (length as usize) < len {
-        return Broken::Broke(Rule::PastLength);
+        return Some(Rule::PastLength);
     }
-    Broken::NoRule
+    None
 }
 
 // A Data with a block of so many bytes, on an open channel.
-fn data_in(stage: Stage, len: usize) -> Broken
+fn data_in(stage: Stage, len: usize) -> Option<Rule>
     ensures { (t : Table) (list : List ℕ) (n : ℕ) (block : Extent) → stage_of t n ≡ stage → block.len ≡ len
         → result ≡ first_of (drop 2 (step_rules t list (Data n block))) }
 {
     if is_spoiled(stage) {
-        return Broken::Broke(Rule::Spoiled);
+        return Some(Rule::Spoiled);
     }
     if is_past(stage, len) {
-        return Broken::Broke(Rule::PastLength);
+        return Some(Rule::PastLength);
     }
-    Broken::NoRule
+    None
 }
 
-// The same where the channel was looked for: the rules behind the one on when.
-fn first_found(place: usize, stage: Stage, length: u32, len: usize) -> Broken
+// The same where the channel was looked for: the rules behind the one on when. A place of sixteen is no record, as the table's search has
+// it. The two have one test in common, and each contract names its own rows: one function for both has more lines.
+fn first_found(place: usize, stage: Stage, length: u32, len: usize) -> Option<Rule>
     ensures { (t : Table) (list : List ℕ) (n : ℕ) (block : Extent)
         → place ≡ number_place n t → stage_of t n ≡ stage → block.len ≡ len
         → result ≡ first_of (drop 1 (step_rules t list (DataFirst n length block))) }
 {
     if PARTS <= place {
-        return Broken::Broke(Rule::NotOpen);
+        return Some(Rule::NotOpen);
     }
     first_in(stage, length, len)
 }
 
-fn data_found(place: usize, stage: Stage, len: usize) -> Broken
+fn data_found(place: usize, stage: Stage, len: usize) -> Option<Rule>
     ensures { (t : Table) (list : List ℕ) (n : ℕ) (block : Extent)
         → place ≡ number_place n t → stage_of t n ≡ stage → block.len ≡ len
         → result ≡ first_of (drop 1 (step_rules t list (Data n block))) }
 {
     if PARTS <= place {
-        return Broken::Broke(Rule::NotOpen);
+        return Some(Rule::NotOpen);
     }
     data_in(stage, len)
 }
 
 // A Data First that was read.
-fn first_rule(table: Table, number: u32, length: u32, len: usize) -> Broken
+fn first_rule(table: Table, number: u32, length: u32, len: usize) -> Option<Rule>
     ensures { (list : List ℕ) (block : Extent) → block.len ≡ len
         → result ≡ first_of (step_rules table list (DataFirst number length block)) }
 {
     if !table.ready {
-        return Broken::Broke(Rule::NotReady);
+        return Some(Rule::NotReady);
     }
     let found = table::find_number(table, number);
     let row = found.row;
@@ -283,12 +255,12 @@ fn first_rule(table: Table, number: u32, length: u32, len: usize) -> Broken
 }
 
 // A Data that was read.
-fn data_rule(table: Table, number: u32, len: usize) -> Broken
+fn data_rule(table: Table, number: u32, len: usize) -> Option<Rule>
     ensures { (list : List ℕ) (block : Extent) → block.len ≡ len
         → result ≡ first_of (step_rules table list (Data number block)) }
 {
     if !table.ready {
-        return Broken::Broke(Rule::NotReady);
+        return Some(Rule::NotReady);
     }
     let found = table::find_number(table, number);
     let row = found.row;
@@ -297,7 +269,7 @@ fn data_rule(table: Table, number: u32, len: usize) -> Broken
 }
 
 // The first rule in the order that holds for a PDU from the server.
-pub fn first(table: Table, list: &[u8], pdu: &[u8]) -> Broken
+pub fn first(table: Table, list: &[u8], pdu: &[u8]) -> Option<Rule>
     ensures { result ≡ first_of (the_rules table list.now pdu.now) }
 {
     match reading::read(pdu, true) {
@@ -322,34 +294,42 @@ pub fn first(table: Table, list: &[u8], pdu: &[u8]) -> Broken
         Pdu::CreateResponse {
             number: _,
             status: _,
-        } => Broken::Broke(Rule::NotReady),
-        Pdu::CapsResponse { version: _ } => Broken::Broke(Rule::NotReady),
+        } => Some(Rule::NotReady),
+        Pdu::CapsResponse { version: _ } => Some(Rule::NotReady),
     }
 }
 
-// A rule's name and an LF, from a place on. Answers its length.
+// A rule's name and an LF.
+#[tactic(auto, unfolding(crate::specs::Rules::name_text))]
+pub fn text(rule: Rule) -> &'static [u8]
+    ensures { (result.now ≡ name_text rule) × (length result.now ≤ NAME_MAX) }
+{
+    match rule {
+        Rule::Empty => b"empty\n",
+        Rule::Long => b"long\n",
+        Rule::Command => b"command\n",
+        Rule::CbId => b"cbid\n",
+        Rule::LengthWidth => b"length-width\n",
+        Rule::Ended => b"ended\n",
+        Rule::Pad => b"pad\n",
+        Rule::Version => b"version\n",
+        Rule::LeftOver => b"left-over\n",
+        Rule::ReadyAlready => b"ready-already\n",
+        Rule::NotReady => b"not-ready\n",
+        Rule::List => b"list\n",
+        Rule::OpenAlready => b"open-already\n",
+        Rule::NotOpen => b"not-open\n",
+        Rule::Spoiled => b"spoiled\n",
+        Rule::Joining => b"joining\n",
+        Rule::OverLimit => b"over-limit\n",
+        Rule::PastLength => b"past-length\n",
+    }
+}
+
+// Lays a rule's name and an LF from a place on. Answers its length.
 pub fn name(out: &mut [u8], at: usize, rule: Rule) -> usize
     ensures value { (result ≡ length (name_text rule)) × (result ≤ NAME_MAX) }
     ensures out_after { out.new ≡ laid out.old at (name_text rule) }
 {
-    match rule {
-        Rule::Empty => lines::text(out, at, b"empty\n"),
-        Rule::Long => lines::text(out, at, b"long\n"),
-        Rule::Command => lines::text(out, at, b"command\n"),
-        Rule::CbId => lines::text(out, at, b"cbid\n"),
-        Rule::LengthWidth => lines::text(out, at, b"length-width\n"),
-        Rule::Ended => lines::text(out, at, b"ended\n"),
-        Rule::Pad => lines::text(out, at, b"pad\n"),
-        Rule::Version => lines::text(out, at, b"version\n"),
-        Rule::LeftOver => lines::text(out, at, b"left-over\n"),
-        Rule::ReadyAlready => lines::text(out, at, b"ready-already\n"),
-        Rule::NotReady => lines::text(out, at, b"not-ready\n"),
-        Rule::List => lines::text(out, at, b"list\n"),
-        Rule::OpenAlready => lines::text(out, at, b"open-already\n"),
-        Rule::NotOpen => lines::text(out, at, b"not-open\n"),
-        Rule::Spoiled => lines::text(out, at, b"spoiled\n"),
-        Rule::Joining => lines::text(out, at, b"joining\n"),
-        Rule::OverLimit => lines::text(out, at, b"over-limit\n"),
-        Rule::PastLength => lines::text(out, at, b"past-length\n"),
-    }
+    lines::text(out, at, text(rule))
 }

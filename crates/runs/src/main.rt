@@ -5,26 +5,17 @@
 // 6. A file that can't be opened or read is said on standard error, and ends the run.
 #![tactic(auto)]
 
-ghost use Rattle.std.specs.Prelude.{◌≡◌};
+use files::{ARGUMENT, Failed};
+use std::rt::{Env, Files};
 
-use files::ARGUMENT;
-use std::rt::Files;
-use walking::{Job, Told};
-
-// Walks through the file, behind a line with its name. Answers whether it could.
-fn walk_file(rt: &(impl Files + Print + Eprint), name: &[u8]) -> bool
-    ensures { name.now ≡ name.now }
-{
-    let Some(mut file) = files::open(rt, name) else {
-        return false;
-    };
-    if !files::write(rt, name) {
-        return false;
+// Walks through the files that so many arguments name.
+fn run(rt: &(impl Env + Files + Print + Eprint), count: usize) -> Result<(), Failed> {
+    for i in 0..count {
+        let mut name = [0u8; ARGUMENT];
+        let n = files::file_name(rt, i + 1, b"runs: a file's name", &mut name)?;
+        stream::walk_file(rt, &name[..n], b"PUMP\0")?;
     }
-    if !files::write(rt, b"\n") {
-        return false;
-    }
-    stream::run(rt, Job::Client(Told::Lines), &mut file, name, b"PUMP\0")
+    Ok(())
 }
 
 fn main(rt: HostRuntime) {
@@ -33,13 +24,5 @@ fn main(rt: HostRuntime) {
         files::complain(&rt, b"runs: name the files to walk through\n");
         return;
     }
-    for i in 0..count {
-        let mut name = [0u8; ARGUMENT];
-        let Some(n) = files::file_name(&rt, i + 1, b"runs: a file's name", &mut name) else {
-            return;
-        };
-        if !walk_file(&rt, &name[..n]) {
-            return;
-        }
-    }
+    let _ = run(&rt, count);
 }

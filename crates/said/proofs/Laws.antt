@@ -1,5 +1,7 @@
 -- Why the program's rows and words are those of the definitions.
 -- Assumes nothing.
+use Rattle.std.specs.Prelude.{Result}
+use Rattle.paper.specs.declared.Refusal.{Refusal}
 use mathlib.Core.Path.{◌≡◌, refl, ap, ◌∙◌}
 use mathlib.Core.Bool.{Bool}
 use mathlib.Core.List.{List, [], ◌∷◌, ◌++◌, append_assoc, append-nil}
@@ -18,23 +20,20 @@ use Rattle.reading.specs.declared.Pdu.TheVariants.{CreateRequest, CreateResponse
 use Rattle.reading.specs.declared.Pdu.TheVariants.{CapsRequest, CapsResponse, Refused}
 use Rattle.laying.specs.Laying.{buffer_after}
 use Rattle.writing.specs.Writing.{written, outcome}
-use Rattle.writing.specs.declared.Written.{Written}
-use Rattle.said.specs.Saying.{numbers_in, bytes_in, spelled_out, row_of, writes, again_of, answer_to, left_by}
+use Rattle.said.specs.Saying.{numbers_in, bytes_in, spelled_out, numbers_of, place_of, writes, again_of, answer_to, left_by}
 
--- a row has the numbers and the bytes that are said, and at most six numbers
+-- the numbers and the bytes of a PDU are those that are said
 pub row_says : (pdu : List ℕ) (read : Pdu)
-    → (take (row_of read).count (row_of read).numbers ≡ numbers_in (said pdu read))
-    × (bytes_at pdu (row_of read).bytes ≡ bytes_in (said pdu read))
-    × ((row_of read).count ≤ 6)
+    → (numbers_of read ≡ numbers_in (said pdu read)) × (bytes_at pdu (place_of read) ≡ bytes_in (said pdu read))
 unfolding numbers_in bytes_in said bytes_at unsigned_of
-row_says pdu (CreateRequest number class name) = (refl, refl, omega arith)
-row_says pdu (CreateResponse number status) = (refl, refl, omega arith)
-row_says pdu (DataFirst number len block) = (refl, refl, omega arith)
-row_says pdu (Data number block) = (refl, refl, omega arith)
-row_says pdu (Close number) = (refl, refl, omega arith)
-row_says pdu (CapsRequest version charges) = (refl, refl, omega arith)
-row_says pdu (CapsResponse version) = (refl, refl, omega arith)
-row_says pdu (Refused why) = (refl, refl, omega arith)
+row_says pdu (CreateRequest number class name) = (refl, refl)
+row_says pdu (CreateResponse number status) = (refl, refl)
+row_says pdu (DataFirst number len block) = (refl, refl)
+row_says pdu (Data number block) = (refl, refl)
+row_says pdu (Close number) = (refl, refl)
+row_says pdu (CapsRequest version charges) = (refl, refl)
+row_says pdu (CapsResponse version) = (refl, refl)
+row_says pdu (Refused why) = (refl, refl)
 
 -- one number more
 pub spelled_on : (ns : List ℕ) (i : ℕ) → i < length ns
@@ -45,7 +44,7 @@ spelled_on (n ∷ ns) zero h = append-nil (field n SPACE)
 spelled_on (n ∷ ns) (suc i) h = rw (spelled_on ns i (omega arith), append_assoc)
 
 -- what the writer of the kind answered and left
-pub so_written : (pdu out after : List ℕ) (read : Pdu) (r : Written) (bad : Bool) (bytes : List ℕ)
+pub so_written : (pdu out after : List ℕ) (read : Pdu) (r : Result ℕ Refusal) (bad : Bool) (bytes : List ℕ)
     → r ≡ written bad bytes out → after ≡ buffer_after (outcome r) bytes out → again_of pdu read ≡ writes bad bytes
     → (r ≡ answer_to (again_of pdu read) out) × (after ≡ left_by (again_of pdu read) out)
 unfolding answer_to left_by

@@ -1,5 +1,5 @@
 -- A line for a PDU: what reading says of it, and whether that, written again, is the same PDU.
-use Rattle.std.specs.Prelude.{ℕ, Bool, false, cond, List, [], ◌∷◌, ◌++◌, map, length, take}
+use Rattle.std.specs.Prelude.{ℕ, Bool, false, cond, List, [], ◌∷◌, ◌++◌, map, length, take, Result, Err, Ok}
 use Rattle.paper.specs.Sizes.{PDU_MAX}
 use Rattle.paper.specs.Commands.{CREATE, DATA_FIRST, DATA, CLOSE, CAPABILITIES}
 use Rattle.paper.specs.Refusals.{refusal_number}
@@ -18,9 +18,6 @@ use Rattle.reading.specs.declared.Pdu.TheVariants.{CapsRequest, CapsResponse, Re
 use Rattle.laying.specs.Laying.{buffer_after, create_request_bytes, create_response_bytes, data_first_bytes, data_bytes, close_bytes}
 use Rattle.laying.specs.Laying.{caps_request_bytes, caps_response_bytes}
 use Rattle.writing.specs.Writing.{written, outcome, bad_request, bad_capabilities}
-use Rattle.writing.specs.declared.Written.{Written}
-use Rattle.writing.specs.declared.Written.TheVariants.{Length, Refused as NotWritten}
-use Rattle.said.specs.declared.Shown.{Shown}
 
 -- ---- what reading says
 
@@ -42,10 +39,7 @@ unfoldable pub spelled_out : List ℕ → List ℕ
 spelled_out [] = []
 spelled_out (n ∷ ns) = field n SPACE ++ spelled_out ns
 
--- ---- the same, as the program holds it: six numbers, how many of them are the row's, and the place of the bytes
-
-abbrev pub shows : List ℕ → ℕ → Extent → Shown
-shows numbers count bytes = record { numbers = numbers; count = count; bytes = bytes }
+-- ---- the same, by the PDU that was read: the numbers, and the place of the bytes
 
 -- the first number of a line: Cmd, or the refusal number
 abbrev pub first_number : Pdu → ℕ
@@ -58,19 +52,28 @@ first_number (CapsRequest version c) = CAPABILITIES
 first_number (CapsResponse version) = CAPABILITIES
 first_number (Refused why) = refusal_number why
 
+abbrev pub numbers_of : Pdu → List ℕ
+numbers_of (CreateRequest number class name) = CREATE ∷ number ∷ class ∷ []
+numbers_of (CreateResponse number status) = CREATE ∷ number ∷ unsigned_of status ∷ []
+numbers_of (DataFirst number len block) = DATA_FIRST ∷ number ∷ len ∷ []
+numbers_of (Data number block) = DATA ∷ number ∷ []
+numbers_of (Close number) = CLOSE ∷ number ∷ []
+numbers_of (CapsRequest version c) = CAPABILITIES ∷ version ∷ c.class0 ∷ c.class1 ∷ c.class2 ∷ c.class3 ∷ []
+numbers_of (CapsResponse version) = CAPABILITIES ∷ version ∷ []
+numbers_of (Refused why) = refusal_number why ∷ []
+
 abbrev pub none : Extent
 none = record { at = 0; len = 0 }
 
-abbrev pub row_of : Pdu → Shown
-row_of (CreateRequest number class name) = shows (CREATE ∷ number ∷ class ∷ 0 ∷ 0 ∷ 0 ∷ []) 3 name
-row_of (CreateResponse number status) = shows (CREATE ∷ number ∷ unsigned_of status ∷ 0 ∷ 0 ∷ 0 ∷ []) 3 none
-row_of (DataFirst number len block) = shows (DATA_FIRST ∷ number ∷ len ∷ 0 ∷ 0 ∷ 0 ∷ []) 3 block
-row_of (Data number block) = shows (DATA ∷ number ∷ 0 ∷ 0 ∷ 0 ∷ 0 ∷ []) 2 block
-row_of (Close number) = shows (CLOSE ∷ number ∷ 0 ∷ 0 ∷ 0 ∷ 0 ∷ []) 2 none
-row_of (CapsRequest version c) =
-    shows (CAPABILITIES ∷ version ∷ c.class0 ∷ c.class1 ∷ c.class2 ∷ c.class3 ∷ []) 6 none
-row_of (CapsResponse version) = shows (CAPABILITIES ∷ version ∷ 0 ∷ 0 ∷ 0 ∷ 0 ∷ []) 2 none
-row_of (Refused why) = shows (refusal_number why ∷ 0 ∷ 0 ∷ 0 ∷ 0 ∷ 0 ∷ []) 1 none
+abbrev pub place_of : Pdu → Extent
+place_of (CreateRequest number class name) = name
+place_of (CreateResponse number status) = none
+place_of (DataFirst number len block) = block
+place_of (Data number block) = block
+place_of (Close number) = none
+place_of (CapsRequest version c) = none
+place_of (CapsResponse version) = none
+place_of (Refused why) = none
 
 -- ---- what was read, written again
 
@@ -91,9 +94,9 @@ again_of pdu (CapsResponse version) = writes (bad_version version) (caps_respons
 again_of pdu (Refused why) = nothing why
 
 -- what the writer answers, and the buffer behind it
-unfoldable pub answer_to : Again → List ℕ → Written
+unfoldable pub answer_to : Again → List ℕ → Result ℕ Refusal
 answer_to (writes bad bytes) out = written bad bytes out
-answer_to (nothing why) out = NotWritten why
+answer_to (nothing why) out = Err why
 
 unfoldable pub left_by : Again → List ℕ → List ℕ
 left_by (writes bad bytes) out = buffer_after (outcome (written bad bytes out)) bytes out
@@ -102,12 +105,12 @@ left_by (nothing why) out = out
 -- ---- the line
 
 -- " same", " other", " refused", each with the line's end
-unfoldable pub word_for : Written → List ℕ → List ℕ → List ℕ
-word_for (Length n) out pdu =
+unfoldable pub word_for : Result ℕ Refusal → List ℕ → List ℕ → List ℕ
+word_for (Ok n) out pdu =
     cond (same_bytes (take n out) pdu)
     (32 ∷ 115 ∷ 97 ∷ 109 ∷ 101 ∷ 10 ∷ [])
     (32 ∷ 111 ∷ 116 ∷ 104 ∷ 101 ∷ 114 ∷ 10 ∷ [])
-word_for (NotWritten why) out pdu = 32 ∷ 114 ∷ 101 ∷ 102 ∷ 117 ∷ 115 ∷ 101 ∷ 100 ∷ 10 ∷ []
+word_for (Err why) out pdu = 32 ∷ 114 ∷ 101 ∷ 102 ∷ 117 ∷ 115 ∷ 101 ∷ 100 ∷ 10 ∷ []
 
 -- written to zeros
 unfoldable pub word_of : List ℕ → Pdu → List ℕ

@@ -15,104 +15,85 @@ ghost use Rattle.lists.specs.Bytes.{laid, zeros};
 ghost use Rattle.paper.specs.Sizes.{PDU_MAX};
 ghost use Rattle.listeners.specs.Listeners.{same_bytes};
 ghost use Rattle.reading.specs.Reading.{read_pdu};
-ghost use Rattle.reading.specs.Said.{said, bytes_at};
-ghost use Rattle.said.specs.Saying.{row_of, spelled_out, text_of, line_of, first_number};
+ghost use Rattle.reading.specs.Said.{said};
+ghost use Rattle.said.specs.Saying.{numbers_of, place_of, spelled_out, text_of, line_of, first_number};
 ghost use Rattle.said.specs.Saying.{again_of, answer_to, left_by, word_for};
 
-use files::Filled;
-use paper::PDU_MAX;
+use files::Failed;
+use paper::{PDU_MAX, Refusal};
 use reading::{Extent, Pdu};
-use writing::Written;
+use std::io::Read;
 
 // The bytes of the input, and of a line.
 const INPUT: usize = 65536;
 
 const OUTPUT: usize = 4096;
 
-// The most numbers that a row has, with its Cmd.
-const FIELDS: usize = 6;
-
-// What a line shows of a PDU: its numbers, how many they are, and the place of its name or data.
-#[derive(Drop)]
-struct Shown {
-    numbers: [u32; FIELDS],
-    count: usize,
-    bytes: Extent,
-}
+// The place of no bytes.
+const NONE: Extent = Extent { at: 0, len: 0 };
 
 // The first number of a line: Cmd, or the refusal number.
 fn first_number(pdu: Pdu) -> u8
     ensures { result ≡ first_number pdu }
 {
     match pdu {
-        Pdu::CreateRequest {
-            number: _,
-            class: _,
-            name: _,
-        } => paper::CREATE,
-        Pdu::CreateResponse {
-            number: _,
-            status: _,
-        } => paper::CREATE,
-        Pdu::DataFirst {
-            number: _,
-            length: _,
-            block: _,
-        } => paper::DATA_FIRST,
-        Pdu::Data {
-            number: _,
-            block: _,
-        } => paper::DATA,
-        Pdu::Close { number: _ } => paper::CLOSE,
-        Pdu::CapsRequest {
-            version: _,
-            charges: _,
-        } => paper::CAPABILITIES,
-        Pdu::CapsResponse { version: _ } => paper::CAPABILITIES,
+        Pdu::CreateRequest { .. } => paper::CREATE,
+        Pdu::CreateResponse { .. } => paper::CREATE,
+        Pdu::DataFirst { .. } => paper::DATA_FIRST,
+        Pdu::Data { .. } => paper::DATA,
+        Pdu::Close { .. } => paper::CLOSE,
+        Pdu::CapsRequest { .. } => paper::CAPABILITIES,
+        Pdu::CapsResponse { .. } => paper::CAPABILITIES,
         Pdu::Refused(refusal) => paper::refusal_number(refusal),
     }
 }
 
-fn row(pdu: Pdu) -> Shown
-    ensures { result ≡ row_of pdu }
+// The place of the name or the data, of no bytes where the PDU has neither.
+fn place(pdu: Pdu) -> Extent
+    ensures { result ≡ place_of pdu }
+{
+    match pdu {
+        Pdu::CreateRequest { name, .. } => name,
+        Pdu::DataFirst { block, .. } => block,
+        Pdu::Data { block, .. } => block,
+        Pdu::CreateResponse { .. } => NONE,
+        Pdu::Close { .. } => NONE,
+        Pdu::CapsRequest { .. } => NONE,
+        Pdu::CapsResponse { .. } => NONE,
+        Pdu::Refused(_) => NONE,
+    }
+}
+
+// Numbers, each with a space behind it, from the front. Answers where they end.
+fn spelled(out: &mut [u8], numbers: &[u32]) -> usize
+    requires { length numbers.now ≤ 6 }
+    ensures value { (result ≡ length (spelled_out numbers.now)) × (result ≤ 126) }
+    ensures out_after { out.new ≡ laid out.old 0 (spelled_out numbers.now) }
+{
+    let mut end = 0;
+    for number in numbers {
+        end += lines::field(out, end, *number as u64, b' ');
+    }
+    end
+}
+
+// The row's numbers, from the front: Cmd and what stands behind it, or the refusal number.
+fn row(out: &mut [u8], pdu: Pdu) -> usize
+    ensures value { (result ≡ length (spelled_out (numbers_of pdu))) × (result ≤ 126) }
+    ensures out_after { out.new ≡ laid out.old 0 (spelled_out (numbers_of pdu)) }
 {
     let cmd = first_number(pdu) as u32;
     match pdu {
-        Pdu::CreateRequest {
-            number,
-            class,
-            name,
-        } => Shown {
-            numbers: [cmd, number, class as u32, 0, 0, 0],
-            count: 3,
-            bytes: name,
-        },
-        Pdu::CreateResponse { number, status } => Shown {
-            numbers: [cmd, number, numbers::unsigned(status), 0, 0, 0],
-            count: 3,
-            bytes: Extent { at: 0, len: 0 },
-        },
-        Pdu::DataFirst {
-            number,
-            length,
-            block,
-        } => Shown {
-            numbers: [cmd, number, length, 0, 0, 0],
-            count: 3,
-            bytes: block,
-        },
-        Pdu::Data { number, block } => Shown {
-            numbers: [cmd, number, 0, 0, 0, 0],
-            count: 2,
-            bytes: block,
-        },
-        Pdu::Close { number } => Shown {
-            numbers: [cmd, number, 0, 0, 0, 0],
-            count: 2,
-            bytes: Extent { at: 0, len: 0 },
-        },
-        Pdu::CapsRequest { version, charges } => Shown {
-            numbers: [
+        Pdu::CreateRequest { number, class, .. } => spelled(out, &[cmd, number, class as u32]),
+        Pdu::CreateResponse { number, status } => {
+            spelled(out, &[cmd, number, numbers::unsigned(status)])
+        }
+        Pdu::DataFirst { number, length, .. } => spelled(out, &[cmd, number, length]),
+        Pdu::Data { number, .. } => spelled(out, &[cmd, number]),
+        Pdu::Close { number } => spelled(out, &[cmd, number]),
+        Pdu::CapsRequest { version, charges } => spelled(
+            out,
+            &[
                 cmd,
                 version as u32,
                 charges.class0 as u32,
@@ -120,44 +101,10 @@ fn row(pdu: Pdu) -> Shown
                 charges.class2 as u32,
                 charges.class3 as u32,
             ],
-            count: 6,
-            bytes: Extent { at: 0, len: 0 },
-        },
-        Pdu::CapsResponse { version } => Shown {
-            numbers: [cmd, version as u32, 0, 0, 0, 0],
-            count: 2,
-            bytes: Extent { at: 0, len: 0 },
-        },
-        Pdu::Refused(_) => Shown {
-            numbers: [cmd, 0, 0, 0, 0, 0],
-            count: 1,
-            bytes: Extent { at: 0, len: 0 },
-        },
+        ),
+        Pdu::CapsResponse { version } => spelled(out, &[cmd, version as u32]),
+        Pdu::Refused(_) => spelled(out, &[cmd]),
     }
-}
-
-// The bytes at a place of the PDU.
-fn bytes_at(pdu: &[u8], bytes: Extent) -> &[u8]
-    ensures { result.now ≡ bytes_at pdu.now bytes }
-{
-    let at = lists::lesser(bytes.at, pdu.len());
-    let len = lists::lesser(bytes.len, pdu.len() - at);
-    &pdu[at..at + len]
-}
-
-// The row's numbers, each with a space behind it, from the front. Answers where they end.
-fn spelled(out: &mut [u8], numbers: [u32; FIELDS], count: usize) -> usize
-    requires { count ≤ 6 }
-    ensures value { (result ≡ length (spelled_out (take count numbers))) × (result ≤ 126) }
-    ensures out_after { out.new ≡ laid out.old 0 (spelled_out (take count numbers)) }
-{
-    let mut end = 0;
-    let mut i = 0;
-    while i < count {
-        end += lines::field(out, end, numbers[i] as u64, b' ');
-        i += 1;
-    }
-    end
 }
 
 // The numbers, the name or data behind its length.
@@ -165,17 +112,14 @@ fn text(out: &mut [u8], pdu: &[u8], read: Pdu) -> usize
     ensures value { (result ≡ length (text_of (said pdu.now read))) × (result ≤ 147 + length pdu.now) }
     ensures out_after { out.new ≡ laid out.old 0 (text_of (said pdu.now read)) }
 {
-    let row = row(read);
-    let numbers = row.numbers;
-    let place = row.bytes;
-    let bytes = bytes_at(pdu, place);
-    let spelled = spelled(out, numbers, row.count);
+    let bytes = place(read).of(pdu);
+    let spelled = row(out, read);
     let counted = spelled + lines::field(out, spelled, bytes.len() as u64, b':');
     counted + lines::text(out, counted, bytes)
 }
 
 // Writes what was read.
-fn again(out: &mut [u8], pdu: &[u8], read: Pdu) -> Written
+fn again(out: &mut [u8], pdu: &[u8], read: Pdu) -> Result<usize, Refusal>
     ensures value { result ≡ answer_to (again_of pdu.now read) out.old }
     ensures out_after { out.new ≡ left_by (again_of pdu.now read) out.old }
 {
@@ -184,7 +128,7 @@ fn again(out: &mut [u8], pdu: &[u8], read: Pdu) -> Written
             number,
             class,
             name,
-        } => writing::write_create_request(out, number, class, bytes_at(pdu, name)),
+        } => writing::write_create_request(out, number, class, name.of(pdu)),
         Pdu::CreateResponse { number, status } => writing::write_create_response(
             out, number, status,
         ),
@@ -192,14 +136,14 @@ fn again(out: &mut [u8], pdu: &[u8], read: Pdu) -> Written
             number,
             length,
             block,
-        } => writing::write_data_first(out, number, length, bytes_at(pdu, block)),
-        Pdu::Data { number, block } => writing::write_data(out, number, bytes_at(pdu, block)),
+        } => writing::write_data_first(out, number, length, block.of(pdu)),
+        Pdu::Data { number, block } => writing::write_data(out, number, block.of(pdu)),
         Pdu::Close { number } => writing::write_close(out, number),
         Pdu::CapsRequest { version, charges } => writing::write_capabilities_request(
             out, version, charges,
         ),
         Pdu::CapsResponse { version } => writing::write_capabilities_response(out, version),
-        Pdu::Refused(why) => Written::Refused(why),
+        Pdu::Refused(why) => Err(why),
     }
 }
 
@@ -207,17 +151,23 @@ fn again(out: &mut [u8], pdu: &[u8], read: Pdu) -> Written
 fn same(buffer: &[u8], n: usize, pdu: &[u8]) -> bool
     ensures { result ≡ same_bytes (take n buffer.now) pdu.now }
 {
-    let end = lists::lesser(n, buffer.len());
-    check::same(&buffer[..end], pdu)
+    let end = n.min(buffer.len());
+    &buffer[..end] == pdu
 }
 
 // The line's last word, from a place on, by what a writer answered and left in its buffer. Answers its length.
-fn word(out: &mut [u8], at: usize, answer: Written, buffer: &[u8], pdu: &[u8]) -> usize
+fn word(
+    out: &mut [u8],
+    at: usize,
+    answer: Result<usize, Refusal>,
+    buffer: &[u8],
+    pdu: &[u8],
+) -> usize
     ensures value { (result ≡ length (word_for answer buffer.now pdu.now)) × (result ≤ 9) }
     ensures out_after { out.new ≡ laid out.old at
         (word_for answer buffer.now pdu.now) }
 {
-    let Written::Length(n) = answer else {
+    let Ok(n) = answer else {
         return lines::text(out, at, b" refused\n");
     };
     if same(buffer, n, pdu) {
@@ -238,24 +188,33 @@ fn line(out: &mut [u8], from_server: bool, pdu: &[u8]) -> usize
     end + word(out, end, answer, &buffer, pdu)
 }
 
-// Prints the line of the record at the front of the input, and answers how many bytes the record has; or `cut`, and 0.
-// Where the line can't be written, 0 too.
-fn show(rt: &(impl Print + Eprint), input: &[u8]) -> usize
-    ensures { result ≤ length input.now }
+// Prints a line for each record of the input, or `cut` and no more.
+fn show(rt: &(impl Print + Eprint), input: &[u8]) -> Result<(), Failed>
+    ensures { input.now ≡ input.now }
 {
-    let size = records::whole(input);
-    if size <= records::LENGTH {
-        files::write(rt, b"cut\n");
-        return 0;
+    let mut rest = input;
+    // Records have varying sizes.
+    while !rest.is_empty() {
+        let Some(size) = records::whole(rest) else {
+            return files::write(rt, b"cut\n");
+        };
+        if size == records::LENGTH {
+            return files::write(rt, b"cut\n");
+        }
+        let from_server = rest[records::LENGTH] == b's';
+        let mut out = [0u8; OUTPUT];
+        let n = line(&mut out, from_server, &rest[records::LENGTH + 1..size]);
+        files::write(rt, &out[..n.min(OUTPUT)])?;
+        rest = &rest[size..];
     }
-    let from_server = input[records::LENGTH] == b's';
-    let mut out = [0u8; OUTPUT];
-    let n = line(&mut out, from_server, &input[records::LENGTH + 1..size]);
-    let end = lists::lesser(n, out.len());
-    if files::write(rt, &out[..end]) {
-        return size;
-    }
-    0
+    Ok(())
+}
+
+// Reads the input, and shows its records.
+fn run<R: Read>(rt: &(impl Print + Eprint), reader: &mut R) -> Result<(), Failed> {
+    let mut input = [0u8; INPUT];
+    let n = files::load(rt, reader, b"standard input", &mut input)?;
+    show(rt, &input[..n])
 }
 
 fn main(rt: HostRuntime) {
@@ -266,16 +225,5 @@ fn main(rt: HostRuntime) {
         );
         return;
     }
-    let mut input = [0u8; INPUT];
-    let Filled::To(n) = files::load(&rt, &mut rt.reader(), b"standard input", &mut input) else {
-        return;
-    };
-    let mut at = 0;
-    while at < n {
-        let size = show(&rt, &input[at..n]);
-        if size == 0 {
-            return;
-        }
-        at += size;
-    }
+    let _ = run(&rt, &mut rt.reader());
 }

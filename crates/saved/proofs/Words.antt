@@ -19,7 +19,7 @@ use Rattle.channel.specs.Channel.{blank}
 use Rattle.table.specs.declared.Totals.{Totals}
 use Rattle.table.specs.Table.{empty_table, record_at}
 use Rattle.saved.specs.Saved.{STATE, HEAD, ROW, bit, stage_code, rest_of, head_of, record_bytes, row_bytes, head_bytes, saved}
-use Rattle.saved.specs.Saved.{word_at, record_of, record_in, records_in, table_in, row_put, totals_put, ask_over, begin_over}
+use Rattle.saved.specs.Saved.{word_at, record_of, record_in, records_in, table_in, row_put, totals_put, begin_over}
 
 -- ---- one word
 
@@ -45,16 +45,6 @@ pub word_four :
     → little (get_or l at 0 ∷ get_or l (at + 1) 0 ∷ get_or l (at + 2) 0 ∷ get_or l (at + 3) 0 ∷ []) ≡ word_at l at
 unfolding word_at value_at value_of
 word_four l at h = rw (four_at l at h)
-
-pub put_four :
-    (l b : List ℕ) (at v : ℕ) → b ≡ bytes_of 4 v
-    → set (set (set (set l at (get_or b 0 0)) (at + 1) (get_or b 1 0)) (at + 2) (get_or b 2 0)) (at + 3) (get_or b 3 0) ≡ laid l at (bytes_of 4 v)
-unfolding laid bytes_of
-put_four l b at v e =
-    let e1 : at + 1 ≡ suc at = omega arith in
-    let e2 : at + 2 ≡ suc (suc at) = omega arith in
-    let e3 : at + 3 ≡ suc (suc (suc at)) = omega arith in
-    rw (e, e1, e2, e3)
 
 -- ---- the record at a place
 
@@ -125,14 +115,6 @@ row_put_law l k r h = rw (lt-ltb k PARTS h) (laid_three l (ROW * k) (rest_of r) 
 pub length_totals_put : (l : List ℕ) (totals : Totals) → length (totals_put l totals) ≡ length l
 unfolding totals_put
 length_totals_put l totals = length_laid _ _ _ ∙ length_laid _ _ _
-
--- the two bytes of a version
-pub ask_two :
-    (l : List ℕ) (v : ℕ) → v < 65536 → length l ≡ STATE → set (set l (HEAD + 1) (v % 256)) (HEAD + 2) (v / 256) ≡ ask_over l v
-unfolding HEAD ask_over laid bytes_of
-ask_two l v h e =
-    let high : v / 256 % 256 ≡ v / 256 = omega arith in
-    rw (eq-eqb (length l) STATE e, high)
 
 -- the bytes of a word that is a mark alone
 mark_bytes : (m w : ℕ) → m < 256 → w ≡ 16777216 * m → bytes_of 4 w ≡ 0 ∷ 0 ∷ 0 ∷ m ∷ []

@@ -36,7 +36,7 @@ const CHANNELS: usize = 196;
 
 const AWAITED: usize = 200;
 
-// The marks of the ends.
+// The marks of the ends. Numbers, since `good` takes any mark.
 pub const CLIENT: u32 = 67;
 
 pub const SHORE: u32 = 83;
@@ -54,32 +54,20 @@ pub struct Head {
 // ---- words
 
 // The word from a place on.
-fn word(state: &[u8], at: usize) -> u32
-    requires { at + 4 ≤ length state.now }
+#[tactic(auto, using(crate::proofs::Words::word_four), unfolding(crate::specs::Saved::STATE))]
+fn word(state: &[u8; STATE], at: usize) -> u32
+    requires { at + 4 ≤ STATE }
     ensures { result ≡ word_at state.now at }
 {
     numbers::joined([state[at], state[at + 1], state[at + 2], state[at + 3]])
 }
 
 // Writes a word from a place on.
-fn put_word(state: &mut [u8], at: usize, value: u32)
-    requires { at + 4 ≤ length state.old }
+fn put_word(state: &mut [u8; STATE], at: usize, value: u32)
+    requires { at + 4 ≤ STATE }
     ensures { state.new ≡ laid state.old at (bytes_of 4 value) }
 {
-    let bytes = numbers::split(value);
-    state[at] = bytes[0];
-    state[at + 1] = bytes[1];
-    state[at + 2] = bytes[2];
-    state[at + 3] = bytes[3];
-}
-
-fn bit(b: bool) -> u32
-    ensures { result ≡ bit b }
-{
-    if b {
-        return 1;
-    }
-    0
+    state[at..at + 4].copy_from_slice(&numbers::split(value));
 }
 
 // ---- a record in its words
@@ -94,6 +82,7 @@ const CODES: u32 = 268435456;
 const WANTED: u32 = 4096;
 
 // A stage's number: 0 idle, 1 spoiled, from 4,096 on a message being joined.
+#[tactic(auto, unfolding(crate::specs::Saved::stage_code))]
 fn stage_code(stage: Stage) -> u32
     ensures { (result ≡ stage_code stage) × (result < 268500992) }
 {
@@ -104,16 +93,17 @@ fn stage_code(stage: Stage) -> u32
     }
 }
 
+#[tactic(auto, unfolding(crate::specs::Saved::rest_of))]
 fn rest_of(record: Record) -> u32
     ensures { result ≡ rest_of «record» }
 {
-    let stage = record.stage;
-    bit(record.taken)
+    record.taken as u32
         + 2 * (record.class % 4)
-        + 8 * (stage_code(stage) % CODES)
-        + MARK * bit(record.awaited)
+        + 8 * (stage_code(record.stage) % CODES)
+        + MARK * record.awaited as u32
 }
 
+#[tactic(auto, unfolding(crate::specs::Saved::stage_of))]
 fn stage_of(code: u32) -> Stage
     ensures { result ≡ stage_of code }
 {
@@ -129,6 +119,7 @@ fn stage_of(code: u32) -> Stage
     }
 }
 
+#[tactic(auto, unfolding(crate::specs::Saved::record_of))]
 fn record_of(rest: u32, number: u32, count: u32) -> Record
     ensures { result ≡ record_of rest number count }
 {
@@ -143,8 +134,8 @@ fn record_of(rest: u32, number: u32, count: u32) -> Record
 }
 
 // The record at a place.
-fn row(state: &[u8], k: usize) -> Record
-    requires { (length state.now ≡ STATE) × (k < PARTS) }
+fn row(state: &[u8; STATE], k: usize) -> Record
+    requires { k < PARTS }
     ensures { result ≡ record_at (table_in state.now) k }
 {
     let at = ROW * k;
@@ -198,21 +189,16 @@ fn awaits(rest: u32) -> u32
     if code < WANTED {
         return 0;
     }
-    if code / WANTED <= code % WANTED {
-        return 0;
-    }
-    code / WANTED - code % WANTED
+    (code / WANTED).saturating_sub(code % WANTED)
 }
 
 // Whether every record is good, none is open or awaited when not ready, and the totals are what a recount comes to.
-fn good_rows(state: &[u8], ready: bool, asks: bool) -> bool
-    requires { length state.now ≡ STATE }
+fn good_rows(state: &[u8; STATE], ready: bool, asks: bool) -> bool
     ensures { result ≡ (fine_rows ready asks PARTS state.now && recounted state.now) }
 {
     let mut channels = 0;
     let mut awaited = 0;
-    let mut i = 0;
-    while i < PARTS {
+    for i in 0..PARTS {
         let rest = word(state, ROW * i);
         if !good_rest(rest, asks) {
             return false;
@@ -222,39 +208,32 @@ fn good_rows(state: &[u8], ready: bool, asks: bool) -> bool
         }
         channels += opens(rest);
         awaited += awaits(rest);
-        i += 1;
     }
     channels == word(state, CHANNELS) && awaited == word(state, AWAITED)
 }
 
 // Whether a record from the place on holds the number.
-fn held_from(state: &[u8], k: usize, number: u32) -> bool
-    requires { length state.now ≡ STATE }
+fn held_from(state: &[u8; STATE], k: usize, number: u32) -> bool
     ensures { result ≡ some (holds number) (drop k (table_in state.now).records) }
 {
-    let mut i = k;
-    while i < PARTS {
+    for i in k..PARTS {
         let record = row(state, i);
         if record.taken && record.number == number {
             return true;
         }
-        i += 1;
     }
     false
 }
 
 // Whether no number stands in two records open or awaited, each compared with those behind it.
-fn pairs_apart(state: &[u8]) -> bool
-    requires { length state.now ≡ STATE }
+fn pairs_apart(state: &[u8; STATE]) -> bool
     ensures { result ≡ no_number_twice (table_in state.now).records }
 {
-    let mut i = 0;
-    while i < PARTS {
+    for i in 0..PARTS {
         let record = row(state, i);
         if record.taken && held_from(state, i + 1, record.number) {
             return false;
         }
-        i += 1;
     }
     true
 }
@@ -265,17 +244,14 @@ const MARKS: usize = 64;
 // The same at a glance, in one pass from the last record to the first: true only where every free record is as Start made it,
 // every other one is good and no two numbers share a mark, which numbers that are counted up don't. Such a state needs no
 // second look.
-fn plain(state: &[u8], ready: bool, asks: bool) -> bool
-    requires { length state.now ≡ STATE }
+fn plain(state: &[u8; STATE], ready: bool, asks: bool) -> bool
     ensures { result ≡ true → (fine_rows ready asks PARTS state.now ≡ true) × ((recounted state.now ≡ true)
         × (no_number_twice (table_in state.now).records ≡ true)) }
 {
     let mut marks = [false; MARKS];
     let mut channels = 0;
     let mut awaited = 0;
-    let mut i = PARTS;
-    while 0 < i {
-        i -= 1;
+    for i in (0..PARTS).rev() {
         let at = ROW * i;
         let rest = word(state, at);
         if rest != 0 {
@@ -314,6 +290,7 @@ fn plain(state: &[u8], ready: bool, asks: bool) -> bool
 }
 
 // Whether the word has the end's mark, a level that may be, and a version only where the end asks.
+#[tactic(auto, unfolding(crate::specs::Saved::good_word))]
 fn good_head(head: u32, mark: u32, asks: bool) -> bool
     ensures { result ≡ good_word mark asks head }
 {
@@ -330,9 +307,9 @@ fn good_head(head: u32, mark: u32, asks: bool) -> bool
 pub fn good(state: &[u8], mark: u32, asks: bool) -> bool
     ensures { result ≡ is_good mark asks state.now }
 {
-    if state.len() != STATE {
+    let Some(state) = state.as_array() else {
         return false;
-    }
+    };
     let head = word(state, HEAD);
     if !good_head(head, mark, asks) {
         return false;
@@ -358,12 +335,13 @@ fn of_an_end(head: u32) -> bool
 }
 
 // Whether what stands behind the records is that of a state of one of the ends, with totals that a sound table may have.
+#[tactic(auto, unfolding(crate::specs::Saved::STATE, crate::specs::Saved::HEAD, crate::specs::Saved::CHANNELS, crate::specs::Saved::AWAITED, crate::specs::Saved::is_headed, paper::specs::Sizes::PARTS, paper::specs::Sizes::STORE, paper::specs::Sizes::PART, paper::specs::Sizes::MESSAGE_MAX))]
 pub fn headed(state: &[u8]) -> bool
     ensures { result ≡ is_headed state.now }
 {
-    if state.len() != STATE {
+    let Some(state) = state.as_array() else {
         return false;
-    }
+    };
     if !of_an_end(word(state, HEAD)) {
         return false;
     }
@@ -376,10 +354,11 @@ pub fn headed(state: &[u8]) -> bool
 // ---- what is read of a state
 
 // Ready or not, the level, the version that was asked for, and the totals.
+#[tactic(auto, unfolding(crate::specs::Saved::STATE, crate::specs::Saved::HEAD, crate::specs::Saved::CHANNELS, crate::specs::Saved::AWAITED, crate::specs::Saved::head_in, crate::specs::Saved::ready_in, crate::specs::Saved::asked_in, table::specs::Table::empty_table))]
 pub fn read_head(state: &[u8]) -> Head
     ensures { result ≡ head_in state.now }
 {
-    if state.len() != STATE {
+    let Some(state) = state.as_array() else {
         return Head {
             ready: false,
             level: 0,
@@ -389,7 +368,7 @@ pub fn read_head(state: &[u8]) -> Head
                 awaited: 0,
             },
         };
-    }
+    };
     let head = word(state, HEAD);
     let channels = word(state, CHANNELS);
     let awaited = word(state, AWAITED);
@@ -401,33 +380,27 @@ pub fn read_head(state: &[u8]) -> Head
     }
 }
 
-// The place of the record that holds the number, or sixteen.
-fn find_number(state: &[u8], number: u32) -> usize
-    requires { length state.now ≡ STATE }
+// The place of the record that holds the number, or sixteen: the table's searches, over the bytes.
+fn find_number(state: &[u8; STATE], number: u32) -> usize
     ensures { result ≡ number_place number (table_in state.now) }
 {
-    let mut i = 0;
-    while i < PARTS {
+    for i in 0..PARTS {
         let at = ROW * i;
         if word(state, at + 4) == number && word(state, at) % 2 == 1 {
             return i;
         }
-        i += 1;
     }
     PARTS
 }
 
 // The place of the lowest free record, or sixteen.
-fn find_free(state: &[u8]) -> usize
-    requires { length state.now ≡ STATE }
+fn find_free(state: &[u8; STATE]) -> usize
     ensures { result ≡ free_place (table_in state.now) }
 {
-    let mut i = 0;
-    while i < PARTS {
+    for i in 0..PARTS {
         if word(state, ROW * i) % 2 == 0 {
             return i;
         }
-        i += 1;
     }
     PARTS
 }
@@ -436,26 +409,28 @@ fn find_free(state: &[u8]) -> usize
 pub fn find(state: &[u8], number: u32) -> Found
     ensures { result ≡ home_over number state.now }
 {
-    if state.len() != STATE {
-        let row = table::blank();
-        return Found { place: PARTS, row };
-    }
+    let Some(state) = state.as_array() else {
+        return Found {
+            place: PARTS,
+            row: table::blank(),
+        };
+    };
     let k = find_number(state, number);
     if k < PARTS {
-        let row = row(state, k);
-        return Found { place: k, row };
+        return Found {
+            place: k,
+            row: row(state, k),
+        };
     }
-    let row = table::blank();
     Found {
         place: find_free(state),
-        row,
+        row: table::blank(),
     }
 }
 
 // ---- what is written into a state
 
-fn put_row(state: &mut [u8], k: usize, record: Record)
-    requires { length state.old ≡ STATE }
+fn put_row(state: &mut [u8; STATE], k: usize, record: Record)
     ensures { state.new ≡ row_put state.old k «record» }
 {
     if PARTS <= k {
@@ -467,8 +442,8 @@ fn put_row(state: &mut [u8], k: usize, record: Record)
     put_word(state, at + 8, record.count);
 }
 
-fn put_change(state: &mut [u8], k: usize, change: Change)
-    requires { length state.old ≡ STATE }
+#[tactic(auto, unfolding(crate::specs::Saved::change_put))]
+fn put_change(state: &mut [u8; STATE], k: usize, change: Change)
     ensures { state.new ≡ change_put state.old k change }
 {
     match change {
@@ -478,8 +453,8 @@ fn put_change(state: &mut [u8], k: usize, change: Change)
     }
 }
 
-fn put_totals(state: &mut [u8], totals: Totals)
-    requires { length state.old ≡ STATE }
+#[tactic(auto, unfolding(crate::specs::Saved::STATE, crate::specs::Saved::CHANNELS, crate::specs::Saved::AWAITED, crate::specs::Saved::totals_put))]
+fn put_totals(state: &mut [u8; STATE], totals: Totals)
     ensures { state.new ≡ totals_put state.old totals }
 {
     put_word(state, CHANNELS, totals.channels);
@@ -489,10 +464,7 @@ fn put_totals(state: &mut [u8], totals: Totals)
 fn level_if(ready: bool, level: u8) -> u8
     ensures { result ≡ level_if ready level }
 {
-    if ready {
-        return level;
-    }
-    0
+    if ready { level } else { 0 }
 }
 
 // Ready or not, at a level, with what becomes of the record at a place, which is `row` as `find` gave both; and the totals
@@ -500,9 +472,9 @@ fn level_if(ready: bool, level: u8) -> u8
 pub fn put(state: &mut [u8], ready: bool, level: u8, k: usize, row: Record, change: Change)
     ensures { state.new ≡ put_over state.old ready level k row change }
 {
-    if state.len() != STATE {
+    let Some(state) = state.as_mut_array() else {
         return;
-    }
+    };
     let channels = word(state, CHANNELS);
     let awaited = word(state, AWAITED);
     let before = Totals { channels, awaited };
@@ -515,20 +487,17 @@ pub fn put(state: &mut [u8], ready: bool, level: u8, k: usize, row: Record, chan
 pub fn ask(state: &mut [u8], version: u16)
     ensures { state.new ≡ ask_over state.old version }
 {
-    if state.len() != STATE {
-        return;
+    if let Some(state) = state.as_mut_array::<STATE>() {
+        state[HEAD + 1..HEAD + 3].copy_from_slice(&version.to_le_bytes());
     }
-    state[HEAD + 1] = (version % 256) as u8;
-    state[HEAD + 2] = (version / 256) as u8;
 }
 
 // An empty table, not ready, with the end's mark.
 pub fn begin(state: &mut [u8], mark: u8)
     ensures { state.new ≡ begin_over state.old mark }
 {
-    if state.len() != STATE {
-        return;
+    if let Some(state) = state.as_mut_array::<STATE>() {
+        *state = [0; STATE];
+        state[HEAD + 3] = mark;
     }
-    lists::clear(state);
-    state[HEAD + 3] = mark;
 }

@@ -1,11 +1,13 @@
 -- The lines of the shore's walker and of both ends: "place (from 0); `asked`, `ready`, `awaited`, `opened`, `declined`, `held`,
 -- `message`, `closed`, `ignored` or `refused`; the channel, or `-` [..]; number [..]; the length of what is sent". The text is
 -- ASCII: single spaces, decimal numbers, one LF (10) at the end.
-use Rattle.std.specs.Prelude.{ℕ, List, [], ◌∷◌, ◌++◌}
+use Rattle.std.specs.Prelude.{ℕ, Option, None, Some, List, [], ◌∷◌, ◌++◌}
 use Rattle.channel.specs.Answers as client
 use Rattle.lines.specs.Decimal.{field}
-use Rattle.lines.specs.Lines.{SPACE, LF, word_field, channel_field}
+use Rattle.lines.specs.Lines.{SPACE, LF, word_field, fields_text, placed_line}
+use Rattle.lines.specs.declared.Handed.{Handed}
 use Rattle.shore.specs.declared.Said.{Said}
+use Rattle.shore.specs.declared.Said.TheVariants.{Asked, Ready, Awaited, Opened, Declined, Held, Message, Closed, Ignored, Refused}
 use Rattle.shore.specs.Saying.{Word, asked, ready, awaited, opened, declined, held, message, closed, ignored, refused}
 use Rattle.shore.specs.Saying.{word_said, concern_said, number_said}
 use Rattle.saying.specs.declared.End.{End}
@@ -26,8 +28,20 @@ said_field refused = word_field client.refused
 
 -- what is said of a call: its answer's word, channel and number, and the length of what is sent
 unfoldable pub said_text : Said → ℕ → List ℕ
-said_text said sent =
-    ((said_field (word_said said) ++ channel_field (concern_said said)) ++ field (number_said said) SPACE) ++ field sent LF
+said_text said sent = fields_text (said_field (word_said said)) (concern_said said) (number_said said) sent LF
+
+-- the message that is handed up
+unfoldable pub message_in : Said → Option Handed
+message_in (Asked version) = None
+message_in (Ready level) = None
+message_in (Awaited number) = None
+message_in (Opened number) = None
+message_in (Declined number) = None
+message_in (Held number left) = None
+message_in (Message number n) = Some (record { number = number; len = n })
+message_in (Closed number) = None
+message_in (Ignored number) = None
+message_in (Refused why concern) = None
 
 -- ---- the shore's walker
 
@@ -59,8 +73,8 @@ END_MAX = 6
 
 -- the link drops
 unfoldable pub dropped_line_of : ℕ → List ℕ
-dropped_line_of place = field place SPACE ++ (100 ∷ 114 ∷ 111 ∷ 112 ∷ 112 ∷ 101 ∷ 100 ∷ 10 ∷ [])
+dropped_line_of place = placed_line place (100 ∷ 114 ∷ 111 ∷ 112 ∷ 112 ∷ 101 ∷ 100 ∷ 10 ∷ [])
 
 -- "Any other leading byte or length: place and `bad`"
 unfoldable pub bad_line_of : ℕ → List ℕ
-bad_line_of place = field place SPACE ++ (98 ∷ 97 ∷ 100 ∷ 10 ∷ [])
+bad_line_of place = placed_line place (98 ∷ 97 ∷ 100 ∷ 10 ∷ [])

@@ -1,5 +1,6 @@
 // The text of lines of the shore end, and of both ends.
 //
+// `Told` is what the shore says, with the fields of the client's answer.
 // `desk_header` and `desk_line` lay the lines of the shore's walker, `link_header`, `end_word`, `dropped_line` and `bad_line`
 // what both ends in one process have beside them. Each lays its bytes at the front of a buffer and answers how many there are. Bytes of the
 // buffer behind them stay. A buffer that is too short gets as much as it has room for.
@@ -9,10 +10,11 @@ ghost use Rattle.std.specs.Prelude.{◌≡◌, ◌+◌, ◌*◌, ◌≤◌, leng
 ghost use Rattle.lists.specs.Bytes.{laid};
 ghost use Rattle.lines.specs.Decimal.{FIELD_MAX};
 ghost use Rattle.lines.specs.Lines.{WORD_MAX, LINE_MAX};
-ghost use Rattle.shore.specs.Saying.{word_said};
-ghost use Rattle.saying.specs.Saying.{said_field, said_text, desk_header, desk_line_of, END_MAX, link_header};
+ghost use Rattle.shore.specs.Saying.{word_said, concern_said, number_said};
+ghost use Rattle.saying.specs.Saying.{said_field, message_in, desk_header, desk_line_of, END_MAX, link_header};
 ghost use Rattle.saying.specs.Saying.{end_field, dropped_line_of, bad_line_of};
 
+use lines::{Handed, Spoken};
 use shore::Said;
 
 // An end of the link.
@@ -25,38 +27,54 @@ pub enum End {
 // The most bytes of an end's word: five letters and a space.
 pub const END_MAX: usize = 6;
 
-// The answer's word and a space, from a place on.
-fn word(out: &mut [u8], at: usize, said: Said) -> usize
-    ensures value { (result ≡ length (said_field (word_said said))) × (result ≤ WORD_MAX) }
-    ensures out_after { out.new ≡ laid out.old at (said_field (word_said said)) }
-{
-    match said {
-        Said::Asked { version: _ } => lines::text(out, at, b"asked "),
-        Said::Ready { level: _ } => lines::text(out, at, b"ready "),
-        Said::Awaited { number: _ } => lines::text(out, at, b"awaited "),
-        Said::Opened { number: _ } => lines::text(out, at, b"opened "),
-        Said::Declined { number: _ } => lines::text(out, at, b"declined "),
-        Said::Held { number: _, left: _ } => lines::text(out, at, b"held "),
-        Said::Message { number: _, len: _ } => lines::text(out, at, b"message "),
-        Said::Closed { number: _ } => lines::text(out, at, b"closed "),
-        Said::Ignored { number: _ } => lines::text(out, at, b"ignored "),
-        Said::Refused { why: _, concern: _ } => lines::text(out, at, b"refused "),
+// What the shore says, as a line tells of it.
+#[derive(Clone, Copy)]
+pub struct Told(pub Said);
+
+impl Spoken for Told {
+    ghost word = { λ told. said_field (word_said told.0) };
+
+    ghost concern = { λ told. concern_said told.0 };
+
+    ghost number = { λ told. number_said told.0 };
+
+    ghost message = { λ told. message_in told.0 };
+
+    #[tactic(auto, unfolding(shore::specs::Saying::word_said, crate::specs::Saying::said_field, lines::specs::Lines::word_field))]
+    fn word(self) -> &'static [u8] {
+        match self.0 {
+            Said::Asked { .. } => b"asked ",
+            Said::Ready { .. } => b"ready ",
+            Said::Awaited { .. } => b"awaited ",
+            Said::Opened { .. } => b"opened ",
+            Said::Declined { .. } => b"declined ",
+            Said::Held { .. } => b"held ",
+            Said::Message { .. } => b"message ",
+            Said::Closed { .. } => b"closed ",
+            Said::Ignored { .. } => b"ignored ",
+            Said::Refused { .. } => b"refused ",
+        }
+    }
+
+    fn concern(self) -> Option<u32> {
+        shore::concerns(self.0)
+    }
+
+    fn number(self) -> u64 {
+        shore::value(self.0)
+    }
+
+    #[tactic(auto, unfolding(crate::specs::Saying::message_in))]
+    fn message(self) -> Option<Handed> {
+        match self.0 {
+            Said::Message { number, len } => Some(Handed { number, len }),
+            _ => None,
+        }
     }
 }
 
-// What is said of a call, from a place on: the answer's word, channel and number, and the length of what is sent.
-fn told(out: &mut [u8], at: usize, said: Said, sent: usize) -> usize
-    requires { at ≤ FIELD_MAX }
-    ensures value { (result ≡ length (said_text said sent)) × (result ≤ WORD_MAX + 3 * FIELD_MAX) }
-    ensures out_after { out.new ≡ laid out.old at (said_text said sent) }
-{
-    let worded = word(out, at, said);
-    let concerned = worded + lines::channel(out, at + worded, shore::concerns(said));
-    let valued = concerned + lines::field(out, at + concerned, shore::value(said), b' ');
-    valued + lines::field(out, at + valued, sent as u64, b'\n')
-}
-
 // The first line of the shore's walker, which names the fields.
+#[tactic(auto, unfolding(crate::specs::Saying::desk_header))]
 pub fn desk_header(out: &mut [u8]) -> usize
     ensures value { (result ≡ length desk_header) × (result ≤ LINE_MAX) }
     ensures out_after { out.new ≡ laid out.old 0 desk_header }
@@ -65,15 +83,16 @@ pub fn desk_header(out: &mut [u8]) -> usize
 }
 
 // The line of a call at the shore: its place, and what is said of it.
+#[tactic(auto, unfolding(crate::specs::Saying::desk_line_of, crate::specs::Saying::said_text, lines::specs::Lines::answer_line))]
 pub fn desk_line(out: &mut [u8], place: u64, said: Said, sent: usize) -> usize
     ensures value { (result ≡ length (desk_line_of place said sent)) × (result ≤ LINE_MAX) }
     ensures out_after { out.new ≡ laid out.old 0 (desk_line_of place said sent) }
 {
-    let placed = lines::field(out, 0, place, b' ');
-    placed + told(out, placed, said, sent)
+    lines::answer_line(out, place, Told(said), sent)
 }
 
 // The first line of both ends.
+#[tactic(auto, unfolding(crate::specs::Saying::link_header))]
 pub fn link_header(out: &mut [u8]) -> usize
     ensures value { (result ≡ length link_header) × (result ≤ LINE_MAX) }
     ensures out_after { out.new ≡ laid out.old 0 link_header }
@@ -82,6 +101,7 @@ pub fn link_header(out: &mut [u8]) -> usize
 }
 
 // The end's word and a space, before the line of a call at that end.
+#[tactic(auto, unfolding(crate::specs::Saying::end_field))]
 pub fn end_word(out: &mut [u8], end: End) -> usize
     ensures value { (result ≡ length (end_field end)) × (result ≤ END_MAX) }
     ensures out_after { out.new ≡ laid out.old 0 (end_field end) }
@@ -93,19 +113,19 @@ pub fn end_word(out: &mut [u8], end: End) -> usize
 }
 
 // The line of a link that drops: its place and `dropped`.
+#[tactic(auto, unfolding(crate::specs::Saying::dropped_line_of))]
 pub fn dropped_line(out: &mut [u8], place: u64) -> usize
     ensures value { (result ≡ length (dropped_line_of place)) × (result ≤ LINE_MAX) }
     ensures out_after { out.new ≡ laid out.old 0 (dropped_line_of place) }
 {
-    let placed = lines::field(out, 0, place, b' ');
-    placed + lines::text(out, placed, b"dropped\n")
+    lines::placed(out, place, b"dropped\n")
 }
 
 // The line of a record that is none: its place and `bad`.
+#[tactic(auto, unfolding(crate::specs::Saying::bad_line_of))]
 pub fn bad_line(out: &mut [u8], place: u64) -> usize
     ensures value { (result ≡ length (bad_line_of place)) × (result ≤ LINE_MAX) }
     ensures out_after { out.new ≡ laid out.old 0 (bad_line_of place) }
 {
-    let placed = lines::field(out, 0, place, b' ');
-    placed + lines::text(out, placed, b"bad\n")
+    lines::placed(out, place, b"bad\n")
 }

@@ -6,39 +6,18 @@
 // ends the run.
 #![tactic(auto)]
 
-ghost use Rattle.std.specs.Prelude.{◌≡◌};
-
+use files::Failed;
 use std::rt::Files;
-use walking::{Job, Told};
 
-// Walks through a file with a list, behind a line with its name. Answers whether it could. The list is as it was.
-fn walk(rt: &(impl Files + Print + Eprint), name: &[u8], list: &[u8]) -> bool
-    ensures { list.now ≡ list.now }
-{
-    let Some(mut file) = files::open(rt, name) else {
-        return false;
-    };
-    if !files::write(rt, name) {
-        return false;
-    }
-    if !files::write(rt, b"\n") {
-        return false;
-    }
-    stream::run(rt, Job::Client(Told::Lines), &mut file, name, list)
+// Walks through each file with its list.
+fn run(rt: &(impl Files + Print + Eprint)) -> Result<(), Failed> {
+    stream::walk_file(rt, b"examples", b"testdvc\0")?;
+    stream::walk_file(rt, b"numbers", b"testdvc\0")?;
+    // 'Lists: empty is good; one zero byte alone gives 6.'
+    stream::walk_file(rt, b"create", b"")?;
+    stream::walk_file(rt, b"create", b"\0")
 }
 
 fn main(rt: HostRuntime) {
-    if !walk(&rt, b"examples", b"testdvc\0") {
-        return;
-    }
-    if !walk(&rt, b"numbers", b"testdvc\0") {
-        return;
-    }
-    // 'Lists: empty is good; one zero byte alone gives 6.'
-    if !walk(&rt, b"create", b"") {
-        return;
-    }
-    if !walk(&rt, b"create", b"\0") {
-        return;
-    }
+    let _ = run(&rt);
 }

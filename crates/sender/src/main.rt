@@ -6,94 +6,57 @@
 #![tactic(auto)]
 
 ghost use Rattle.std.specs.Prelude.{◌≤◌, ◌≡◌, length};
-ghost use Rattle.lines.specs.Lines.{LINE_MAX};
-ghost use Rattle.judge.specs.Sender.{HEAD, HEAD_MAX};
+ghost use Rattle.judge.specs.Sender.{HEAD};
 
-use files::Filled;
-use judge::{HEAD, HEAD_MAX, NUMBER, Stand};
+use files::Failed;
+use judge::{Course, HEAD, HEAD_MAX, NUMBER};
 use lines::LINE_MAX;
-use records::RECORD_MAX;
+use records::{RECORD_MAX, Stand};
 use std::io::Read;
 
 // The bytes of the input buffer: room for two records of the greatest length.
 const INPUT: usize = 2 * RECORD_MAX;
 
 // Says what the PDUs came to at the end of the input.
-fn say(rt: &(impl Print + Eprint), head: &[u8], stand: Stand, out: &mut [u8])
-    requires { LINE_MAX ≤ length out.old }
+fn say(rt: &(impl Print + Eprint), head: &[u8], stand: Stand<Course>) -> Result<(), Failed>
     ensures { head.now ≡ head.now }
 {
-    let course = stand.course;
-    let laid = judge::say(out, head, course, stand.had);
-    files::write(rt, &out[..laid]);
+    let mut out = [0u8; LINE_MAX];
+    let laid = judge::say(&mut out, head, stand.course, stand.had);
+    files::write(rt, &out[..laid])
 }
 
 // Judges the PDUs read by read, and says at the end of the input what they came to.
-fn judged<R: Read>(
-    rt: &(impl Print + Eprint),
-    reader: &mut R,
-    head: &[u8],
-    buffer: &mut [u8],
-    out: &mut [u8],
-)
-    requires { (HEAD ≤ length head.now) × (LINE_MAX ≤ length out.old) }
+fn judged<R: Read>(rt: &(impl Print + Eprint), reader: &mut R, head: &[u8]) -> Result<(), Failed>
+    requires { HEAD ≤ length head.now }
     ensures { head.now ≡ head.now }
 {
+    let mut buffer = [0u8; INPUT];
     let number = numbers::number(&head[..NUMBER]);
     let mut stand = judge::begin();
+    // A loop shared with the other programs that read so, over a closure, has as many lines at each caller.
     // A proved loop has to end, and nothing says that an input does: a count that no run uses up.
-    let mut reads = u64::MAX;
-    while 0 < reads {
-        reads -= 1;
-        let Filled::To(end) = files::fill(rt, reader, b"standard input", buffer, stand.had) else {
-            return;
-        };
+    for _ in 0..u64::MAX {
+        let end = files::fill(rt, reader, b"standard input", &mut buffer, stand.had)?;
         if end == stand.had {
-            say(rt, head, stand, out);
-            return;
+            return say(rt, head, stand);
         }
-        let course = stand.course;
-        stand = judge::turn(number, &head[HEAD..], course, &mut buffer[..end]);
+        stand = judge::turn(number, &head[HEAD..], stand.course, &mut buffer[..end]);
     }
+    Ok(())
 }
 
-// Reads the message behind number and length, and then judges the PDUs.
-fn with_message<R: Read>(
-    rt: &(impl Print + Eprint),
-    reader: &mut R,
-    head: &mut [u8],
-    buffer: &mut [u8],
-    out: &mut [u8],
-)
-    requires { (HEAD_MAX ≤ length head.old) × (LINE_MAX ≤ length out.old) }
-    ensures { length out.new ≡ length out.old }
-{
-    let needs = judge::head_needs(&head[..HEAD]);
-    let Filled::To(more) = files::load(rt, reader, b"standard input", &mut head[HEAD..needs]) else {
-        return;
-    };
-    judged(rt, reader, &head[..HEAD + more], buffer, out);
-}
-
-// Reads number and length, and then what is behind them. Where the input is too short for these, nothing is.
-fn run<R: Read>(
-    rt: &(impl Print + Eprint),
-    reader: &mut R,
-    head: &mut [u8],
-    buffer: &mut [u8],
-    out: &mut [u8],
-)
-    requires { (HEAD_MAX ≤ length head.old) × (LINE_MAX ≤ length out.old) }
-    ensures { length out.new ≡ length out.old }
-{
-    let Filled::To(fixed) = files::load(rt, reader, b"standard input", &mut head[..HEAD]) else {
-        return;
-    };
+// Reads number and length, then the message behind them, and then judges the PDUs. Where the input is too short for number
+// and length, nothing is judged.
+fn run<R: Read>(rt: &(impl Print + Eprint), reader: &mut R) -> Result<(), Failed> {
+    let mut head = [0u8; HEAD_MAX];
+    let fixed = files::load(rt, reader, b"standard input", &mut head[..HEAD])?;
     if fixed < HEAD {
-        say(rt, &head[..fixed], judge::begin(), out);
-        return;
+        return say(rt, &head[..fixed], judge::begin());
     }
-    with_message(rt, reader, head, buffer, out);
+    let needs = judge::head_needs(&head[..HEAD]);
+    let more = files::load(rt, reader, b"standard input", &mut head[HEAD..needs])?;
+    judged(rt, reader, &head[..HEAD + more])
 }
 
 fn main(rt: HostRuntime) {
@@ -104,8 +67,5 @@ fn main(rt: HostRuntime) {
         );
         return;
     }
-    let mut head = [0u8; HEAD_MAX];
-    let mut buffer = [0u8; INPUT];
-    let mut out = [0u8; LINE_MAX];
-    run(&rt, &mut rt.reader(), &mut head, &mut buffer, &mut out);
+    let _ = run(&rt, &mut rt.reader());
 }

@@ -6,81 +6,59 @@
 // is printed. What is printed is the work of `planning`.
 #![tactic(auto)]
 
-ghost use Rattle.std.specs.Prelude.{◌*◌, ◌≤◌, ◌≡◌, length};
-ghost use Rattle.planning.specs.Sets.{SET};
-ghost use Rattle.planning.specs.Lines.{FOUR_MAX, LAST_MAX};
+ghost use Rattle.std.specs.Prelude.{◌≡◌};
 
-use files::{ARGUMENT, Filled};
+use files::{ARGUMENT, Failed};
 use paper::SETS_MAX;
 use planning::{Course, FOUR_MAX, LAST_MAX, SET};
 use std::io::Read;
 use std::rt::Files;
 
-// The sets that the input buffer has room for, and the bytes of the two buffers: a line for each set, or the last line.
+// The sets that the input buffer has room for, and the bytes of the two buffers: a line for each set.
 const SETS: usize = 4096;
 
 const INPUT: usize = SETS * SET;
 
-const OUTPUT: usize = SETS * FOUR_MAX + LAST_MAX;
+const OUTPUT: usize = SETS * FOUR_MAX;
 
 // Each read brings a byte, and behind one set too many nothing more is read: no report takes so many reads.
 const READS: usize = (SETS_MAX as usize + 2) * SET;
 
 // Writes the line that the report ends with.
-fn finish(rt: &(impl Print + Eprint), course: Course, had: usize, out: &mut [u8])
-    requires { LAST_MAX ≤ length out.old }
-    ensures { length out.new ≡ length out.old }
-{
-    let laid = planning::say(out, planning::ending(course, had));
-    files::write(rt, &out[..laid]);
+fn finish(rt: &(impl Print + Eprint), course: Course, had: usize) -> Result<(), Failed> {
+    let mut out = [0u8; LAST_MAX];
+    let laid = planning::say(&mut out, planning::ending(course, had));
+    files::write(rt, &out[..laid])
 }
 
 // Reports read by read, until the file ends or has too many sets.
-fn report<R: Read>(
-    rt: &(impl Print + Eprint),
-    reader: &mut R,
-    name: &[u8],
-    buffer: &mut [u8],
-    out: &mut [u8],
-)
-    requires { (FOUR_MAX * length buffer.old ≤ SET * length out.old) × (LAST_MAX ≤ length out.old) }
+fn report<R: Read>(rt: &(impl Print + Eprint), reader: &mut R, name: &[u8]) -> Result<(), Failed>
     ensures { name.now ≡ name.now }
 {
+    let mut buffer = [0u8; INPUT];
+    let mut out = [0u8; OUTPUT];
     let mut stand = planning::begin();
-    let mut reads = READS;
-    while 0 < reads {
-        reads -= 1;
-        let Filled::To(end) = files::fill(rt, reader, name, buffer, stand.had) else {
-            return;
-        };
-        let course = stand.course;
+    // A loop shared with the other programs that read so, over a closure, has as many lines at each caller.
+    for _ in 0..READS {
+        let end = files::fill(rt, reader, name, &mut buffer, stand.had)?;
         if end == stand.had {
-            finish(rt, course, stand.had, out);
-            return;
+            break;
         }
-        stand = planning::turn(course, &mut buffer[..end], out);
-        let laid = stand.laid;
-        if !files::write(rt, &out[..laid]) {
-            return;
-        }
-        let next = stand.course;
-        if planning::is_over(next) {
-            finish(rt, next, stand.had, out);
-            return;
+        stand = planning::turn(stand.course, &mut buffer[..end], &mut out);
+        files::write(rt, &out[..stand.laid])?;
+        if planning::is_over(stand.course) {
+            break;
         }
     }
+    finish(rt, stand.course, stand.had)
 }
 
 // Opens the file, and reports.
-fn run(rt: &(impl Files + Print + Eprint), name: &[u8])
+fn run(rt: &(impl Files + Print + Eprint), name: &[u8]) -> Result<(), Failed>
     ensures { name.now ≡ name.now }
 {
-    let Some(mut file) = files::open(rt, name) else {
-        return;
-    };
-    let mut buffer = [0u8; INPUT];
-    let mut out = [0u8; OUTPUT];
-    report(rt, &mut file, name, &mut buffer, &mut out);
+    let mut file = files::open(rt, name)?;
+    report(rt, &mut file, name)
 }
 
 fn main(rt: HostRuntime) {
@@ -92,7 +70,7 @@ fn main(rt: HostRuntime) {
         return;
     }
     let mut name = [0u8; ARGUMENT];
-    if let Some(n) = files::file_name(&rt, 1, b"shares: the file's name", &mut name) {
-        run(&rt, &name[..n]);
+    if let Ok(n) = files::file_name(&rt, 1, b"shares: the file's name", &mut name) {
+        let _ = run(&rt, &name[..n]);
     }
 }

@@ -1,12 +1,11 @@
 -- What a PDU asks is its event.
 -- Assumes nothing.
+use Rattle.std.specs.Prelude.{Option, None, Some}
 use mathlib.Core.Path.{◌≡◌, refl}
 use mathlib.Core.List.{List}
 use Prim.Native.Nat.{ℕ}
 use Rattle.paper.specs.declared.Refusal.{Refusal}
 use Rattle.reading.specs.Garbled.{carries}
-use Rattle.reading.specs.declared.Carried.{Carried}
-use Rattle.reading.specs.declared.Carried.TheVariants.{NoNumber, Number}
 use Rattle.reading.specs.declared.Pdu.{Pdu}
 use Rattle.reading.specs.declared.Pdu.TheVariants.{CreateRequest, CreateResponse, DataFirst, Data, Close}
 use Rattle.reading.specs.declared.Pdu.TheVariants.{CapsRequest, CapsResponse, Refused}
@@ -15,10 +14,10 @@ use Rattle.shore.specs.Rules.{Acts}
 use Rattle.shore.specs.Events.{Of, unread, event_of}
 use Rattle.shore.specs.Asking.{told, event_asked, unread_heard, heard_in, closing_of}
 
-unread_heard_law : (pdu : List ℕ) (why : Refusal) (carried : Carried) → event_asked (unread_heard why carried) pdu ≡ unread why carried
+unread_heard_law : (pdu : List ℕ) (why : Refusal) (carried : Option ℕ) → event_asked (unread_heard why carried) pdu ≡ unread why carried
 unfolding event_asked unread_heard told unread
-unread_heard_law pdu why NoNumber = refl
-unread_heard_law pdu why (Number n) = refl
+unread_heard_law pdu why None = refl
+unread_heard_law pdu why (Some n) = refl
 
 pub event_heard : (pdu : List ℕ) (read : Pdu) → event_asked (heard_in pdu read) pdu ≡ event_of pdu read
 unfolding event_asked heard_in told event_of

@@ -1,5 +1,6 @@
 -- Refusal 1 in front of a step: what a call gives, guarded.
 -- Assumes nothing.
+use Rattle.std.specs.Prelude.{None, Result, Err, Ok}
 use mathlib.Core.Path.{◌≡◌, refl, sym, ◌∙◌}
 use mathlib.Core.Logic.{◌≢◌}
 use mathlib.Core.Bool.{Bool, true, false, cond, not}
@@ -18,8 +19,6 @@ use Rattle.lists.proofs.Cases.{choice, neither}
 use Rattle.reading.specs.declared.Charges.{Charges}
 use Rattle.laying.specs.Laying.{buffer_after, create_request_bytes, caps_request_bytes}
 use Rattle.laying.proofs.Lengths.{length_caps_request}
-use Rattle.writing.specs.declared.Written.{Written}
-use Rattle.writing.specs.declared.Written.TheVariants.{Length, Refused as NotWritten}
 use Rattle.writing.specs.Writing.{judged, written, outcome, bad_request, bad_capabilities}
 use Rattle.table.specs.declared.Table.{Table}
 use Rattle.table.specs.Table.{free_place, record_at, put_back}
@@ -29,7 +28,6 @@ use Rattle.table.proofs.Recount.{opens_none, awaits_none}
 use Rattle.channel.specs.declared.Change.TheVariants.{Becomes}
 use Rattle.channel.specs.Channel.{blank, class_at}
 use Rattle.connection.proofs.Putting.{put_becomes}
-use Rattle.channel.specs.declared.Concern.TheVariants.{NoChannel}
 use Rattle.client.specs.Client.{bad_call, place_for}
 use Rattle.shore.specs.declared.Shore.{Shore}
 use Rattle.shore.specs.declared.Given.{Given}
@@ -63,7 +61,7 @@ gives_whole w s reply storeAfter replyAfter r e g = rw e (g.result, (g.stored, g
 -- a refusal that concerns no channel: nothing but the answer
 pub gives_refused :
     (st : Standing) (why : Refusal) (reply : List ℕ) (r : Given)
-    → r ≡ record { shore = st.shore; said = Refused why NoChannel; sent = 0; place = PARTS }
+    → r ≡ record { shore = st.shore; said = Refused why None; sent = 0; place = PARTS }
     → Gives (refused st why) reply r st.store reply
 unfolding laid place_for concern_said
 gives_refused st why reply r f = record { result = f; stored = refl; replied = refl }
@@ -84,7 +82,7 @@ out_passes s out step e = rw e
 -- a refusal sends nothing, and writes nothing
 pub unsent :
     (s : Shore) (why : Refusal) (out : List ℕ) (w : Sends) (r : Sending) → w ≡ sends_of out (refused (storeless s) why)
-    → r ≡ record { shore = s; said = Refused why NoChannel; sent = 0 } → (r ≡ w.result) × (out ≡ w.out)
+    → r ≡ record { shore = s; said = Refused why None; sent = 0 } → (r ≡ w.result) × (out ≡ w.out)
 unfolding sends_of laid
 unsent s why out w r e f = rw e (f, refl)
 
@@ -96,14 +94,14 @@ writes s bad pdu step =
     refuse (refused (storeless s) BadField) bad (refuse (refused (storeless s) OverLimit) (ltb PDU_MAX (length pdu)) step)
 
 -- of values that are good or bad, and lengths that fit or don't
-abbrev judged_by : Bool → Bool → ℕ → Written
-judged_by bad over len = cond bad (NotWritten BadField) (cond over (NotWritten OverLimit) (Length len))
+abbrev judged_by : Bool → Bool → ℕ → Result ℕ Refusal
+judged_by bad over len = cond bad (Err BadField) (cond over (Err OverLimit) (Ok len))
 
 judged_so : (bad : Bool) (pdu out : List ℕ) → ltb (length out) PDU_MAX ≡ false → written bad pdu out ≡ judged_by bad (ltb PDU_MAX (length pdu)) (length pdu)
 unfolding written judged
 judged_so bad pdu out e = rw e
 
-module _ (s : Shore) (next : Shore) (said : Said) (bad : Bool) (pdu out : List ℕ) (w : Written) (after : List ℕ) (fits : ltb (length out) PDU_MAX ≡ false)
+module _ (s : Shore) (next : Shore) (said : Said) (bad : Bool) (pdu out : List ℕ) (w : Result ℕ Refusal) (after : List ℕ) (fits : ltb (length out) PDU_MAX ≡ false)
     (e : w ≡ written bad pdu out) (f : after ≡ buffer_after (outcome w) pdu out) where
   abbrev step : Stepped
   step = writes s bad pdu (step_to (storeless next) said pdu)
@@ -115,7 +113,7 @@ module _ (s : Shore) (next : Shore) (said : Said) (bad : Bool) (pdu out : List �
   by = e ∙ judged_so bad pdu out fits
 
   -- what writing refuses
-  pub write_refused : (why : Refusal) (r : Sending) → w ≡ NotWritten why → r ≡ record { shore = s; said = Refused why NoChannel; sent = 0 } → Sent r
+  pub write_refused : (why : Refusal) (r : Sending) → w ≡ Err why → r ≡ record { shore = s; said = Refused why None; sent = 0 } → Sent r
   unfolding sends_of buffer_after outcome laid
   write_refused why r g h = go bad (ltb PDU_MAX (length pdu)) (sym g ∙ by)
     where
@@ -123,7 +121,7 @@ module _ (s : Shore) (next : Shore) (said : Said) (bad : Bool) (pdu out : List �
       left = f ∙ rw g refl
 
       go :
-          (b over : Bool) → NotWritten why ≡ judged_by b over (length pdu)
+          (b over : Bool) → Err why ≡ judged_by b over (length pdu)
           → (r ≡ (sends_of out (cond b (refused (storeless s) BadField) (cond over (refused (storeless s) OverLimit) (step_to (storeless next) said pdu)))).result)
           × (after ≡ (sends_of out (cond b (refused (storeless s) BadField) (cond over (refused (storeless s) OverLimit) (step_to (storeless next) said pdu)))).out)
       go true over k = let same : why ≡ BadField = cc in (h ∙ rw same refl, left)
@@ -131,7 +129,7 @@ module _ (s : Shore) (next : Shore) (said : Said) (bad : Bool) (pdu out : List �
       go false false k = let z : ◌≡◌ {A = ℕ} 0 1 = cc in absurd (omega arith)
 
   -- what it writes
-  pub write_sent : (n : ℕ) (r : Sending) → w ≡ Length n → r ≡ record { shore = next; said = said; sent = n } → Sent r
+  pub write_sent : (n : ℕ) (r : Sending) → w ≡ Ok n → r ≡ record { shore = next; said = said; sent = n } → Sent r
   unfolding sends_of buffer_after outcome
   write_sent n r g h = go bad (ltb PDU_MAX (length pdu)) (sym g ∙ by)
     where
@@ -139,7 +137,7 @@ module _ (s : Shore) (next : Shore) (said : Said) (bad : Bool) (pdu out : List �
       left = f ∙ rw g refl
 
       go :
-          (b over : Bool) → Length n ≡ judged_by b over (length pdu)
+          (b over : Bool) → Ok n ≡ judged_by b over (length pdu)
           → (r ≡ (sends_of out (cond b (refused (storeless s) BadField) (cond over (refused (storeless s) OverLimit) (step_to (storeless next) said pdu)))).result)
           × (after ≡ (sends_of out (cond b (refused (storeless s) BadField) (cond over (refused (storeless s) OverLimit) (step_to (storeless next) said pdu)))).out)
       go true over k = let z : ◌≡◌ {A = ℕ} 0 1 = cc in absurd (omega arith)

@@ -1,6 +1,7 @@
 -- What was decided of what was found, put back, is the step. What both ends have in common is the client's step, said at this
 -- end (`decided_step`, client); an awaited number is seen as one that isn't open, and stays.
 -- Assumes nothing.
+use Rattle.std.specs.Prelude.{None, Some}
 use mathlib.Core.Path.{◌≡◌, refl, sym, ap, ◌∙◌}
 use mathlib.Core.Bool.{Bool, true, false, cond, ◌&&◌, ◌||◌}
 use mathlib.Core.List.{List, []}
@@ -17,7 +18,6 @@ use Rattle.lists.specs.Bytes.{laid}
 use Rattle.lists.proofs.Cases.{and_false, both, lt_or_le, true_not_false}
 use Rattle.channel.specs.declared.Record.{Record}
 use Rattle.channel.specs.declared.Offer.{Offer}
-use Rattle.channel.specs.declared.Concern.TheVariants.{NoChannel, Channel}
 use Rattle.channel.specs.declared.Answer.{Answer}
 use Rattle.channel.specs.declared.Answer.TheVariants as answer
 use Rattle.channel.specs.declared.Ask.{Ask}
@@ -164,12 +164,12 @@ module _ (n : ℕ) (t : Table) (asked : ℕ) (store : List ℕ) (long : length t
   abbrev ComesTo : Stepped → List ℕ → Decided → Type 0
   ComesTo s block d = (s ≡ left block d) × Placed d
 
-  no_place : (d : Decided) → concern_said d.said ≡ NoChannel → Placed d
+  no_place : (d : Decided) → concern_said d.said ≡ None → Placed d
   unfolding place_if place_for
   no_place d e = rw e refl
 
   own_place :
-      (d : Decided) → concern_said d.said ≡ Channel n
+      (d : Decided) → concern_said d.said ≡ Some n
       → number_place n (put_back t d.ready d.level home found d.change) ≡ place_after home found.taken d.change → Placed d
   unfolding place_if place_for
   own_place d e f = rw e (sym f)
@@ -185,10 +185,10 @@ module _ (n : ℕ) (t : Table) (asked : ℕ) (store : List ℕ) (long : length t
   unfolding kept reply_told
   says_step ready level said block = rw (put_stays t ready level home found long) refl
 
-  refused_step : (why : Refusal) (block : List ℕ) → ComesTo (refused st why) block (saying t.ready t.level (Refused why NoChannel))
+  refused_step : (why : Refusal) (block : List ℕ) → ComesTo (refused st why) block (saying t.ready t.level (Refused why None))
   unfolding concern_said
   refused_step why block =
-      (says_step t.ready t.level (Refused why NoChannel) block, no_place (saying t.ready t.level (Refused why NoChannel)) refl)
+      (says_step t.ready t.level (Refused why None) block, no_place (saying t.ready t.level (Refused why None)) refl)
 
   -- in time, and too soon
   in_step : t.ready ≡ true → (d : Deed) → stepped st (Of n d) ≡ finished n st (view n here) (deed t.level n (view n here) d)
@@ -281,12 +281,12 @@ module _ (n : ℕ) (t : Table) (asked : ℕ) (store : List ℕ) (long : length t
   awaited_garbled e why = go t.ready refl
     where
       go : (b : Bool) → t.ready ≡ b → stepped st (Of n (Acts (Garbled why))) ≡ refused st why
-      go true r = kept_step e r (Garbled why) (answer.Refused why NoChannel) refl
+      go true r = kept_step e r (Garbled why) (answer.Refused why None) refl
       go false r = soon_step r (Acts (Garbled why))
 
   blank_garbled :
       (why : Refusal) (block : List ℕ)
-      → as_common (decides blank (matter.Unread why true) block) NoReply ≡ saying t.ready t.level (Refused why NoChannel)
+      → as_common (decides blank (matter.Unread why true) block) NoReply ≡ saying t.ready t.level (Refused why None)
   unfolding as_common common.refusing said_as
   blank_garbled why block =
       rw (← unread t.ready t.level n (ltb home PARTS) blank (length block) why true (and_false (t.ready && true))) refl
@@ -303,7 +303,7 @@ module _ (n : ℕ) (t : Table) (asked : ℕ) (store : List ℕ) (long : length t
   awaited_asks :
       found.awaited ≡ true → (a : Act) (ask : Ask) (answer : Answer) (reply : decision.Decided → Reply) (block : List ℕ)
       → act t.level n NoRoom Shut a ≡ did Shut answer [] → turn_of t.level n (ltb home PARTS) blank ask (length block) ≡ answering answer
-      → concern_of answer ≡ Channel n → common.too_soon a ≡ WrongTime → ((d : decision.Decided) → d.turn.reply ≡ NoReply → reply d ≡ NoReply)
+      → concern_of answer ≡ Some n → common.too_soon a ≡ WrongTime → ((d : decision.Decided) → d.turn.reply ≡ NoReply → reply d ≡ NoReply)
       → ComesTo (stepped st (Of n (Acts a))) block (as_common (decides blank (matter.Asks ask) block) (reply (decides blank (matter.Asks ask) block)))
   unfolding as_common too_soon_for said_as common.refusing
   awaited_asks e a ask answer reply block f g c soon mute = go t.ready refl
@@ -332,7 +332,7 @@ module _ (n : ℕ) (t : Table) (asked : ℕ) (store : List ℕ) (long : length t
       go false e = rw (seen_plain found e) (common_step e (Bring offer block) tt (matter.Asks (ask.Block offer)) block NoReply refl refl)
       go true e =
           rw (seen_awaited found e)
-          (awaited_asks e (Bring offer block) (ask.Block offer) (answer.Refused NotOpen (Channel n)) (λ d. NoReply) block refl refl refl refl (λ d h. refl))
+          (awaited_asks e (Bring offer block) (ask.Block offer) (answer.Refused NotOpen (Some n)) (λ d. NoReply) block refl refl refl refl (λ d h. refl))
 
   end_step : (local : Bool) (block : List ℕ) → ComesTo (stepped st (Of n (Acts (client.close_act local)))) block (decided (End local) block)
   unfolding decided_of client-asks.told act_of reply_told act turn_of closing concern_of common.too_soon
@@ -347,7 +347,7 @@ module _ (n : ℕ) (t : Table) (asked : ℕ) (store : List ℕ) (long : length t
       go false e false = rw (seen_plain found e) (common_step e Closing tt (matter.Asks (ask.End false)) block NoReply refl refl)
       go true e true =
           rw (seen_awaited found e)
-          (awaited_asks e LocalClose (ask.End true) (answer.Refused NotOpen (Channel n)) (λ d. d.turn.reply) block refl refl refl refl (λ d h. h))
+          (awaited_asks e LocalClose (ask.End true) (answer.Refused NotOpen (Some n)) (λ d. d.turn.reply) block refl refl refl refl (λ d h. h))
       go true e false =
           rw (seen_awaited found e) (awaited_asks e Closing (ask.End false) (answer.Ignored n) (λ d. NoReply) block refl refl refl refl (λ d h. refl))
 
@@ -362,7 +362,7 @@ module _ (n : ℕ) (t : Table) (asked : ℕ) (store : List ℕ) (long : length t
           (cond b (refused st WrongTime)
           (step_to (with_state st (state_of (readied t (level_between asked version)) store)) (Ready (level_between asked version)) []))
           block
-          (cond b (saying t.ready t.level (Refused WrongTime NoChannel)) (saying true (level_between asked version) (Ready (level_between asked version))))
+          (cond b (saying t.ready t.level (Refused WrongTime None)) (saying true (level_between asked version) (Ready (level_between asked version))))
       go true = refused_step WrongTime block
       go false =
           let level = level_between asked version in
@@ -407,11 +407,11 @@ module _ (n : ℕ) (t : Table) (asked : ℕ) (store : List ℕ) (long : length t
       (λ (l : PARTS ≤ number_place n t). rw (view_shut n here (number_place n t) refl l) refl)
       (lt_or_le (number_place n t) PARTS)
 
-  not_answered : (status : ℤ) → t.ready ≡ true → (found.taken && found.awaited) ≡ false → answers status ≡ step_to st (Refused NotAwaited (Channel n)) []
+  not_answered : (status : ℤ) → t.ready ≡ true → (found.taken && found.awaited) ≡ false → answers status ≡ step_to st (Refused NotAwaited (Some n)) []
   unfolding finished
   not_answered status r e =
       in_step r (Answered status) ∙ ap (finished n st (view n here)) (unawaited_deed status e)
-      ∙ ap (λ (x : State). step_to (with_state st x) (Refused NotAwaited (Channel n)) []) (save_own n here h)
+      ∙ ap (λ (x : State). step_to (with_state st x) (Refused NotAwaited (Some n)) []) (save_own n here h)
 
   module _ (status : ℤ) (block : List ℕ) (r : t.ready ≡ true) (e : (found.taken && found.awaited) ≡ true) where
     is_taken : found.taken ≡ true
@@ -448,7 +448,7 @@ module _ (n : ℕ) (t : Table) (asked : ℕ) (store : List ℕ) (long : length t
           → ComesTo (answers status) block (settling t.ready t.level n found status)
       go false r c e d f = rw (← too_soon_law t.ready t.level n found status r, soon_step r (Answered status)) (refused_step WrongTime block)
       go true r false e d f =
-          let said = Refused NotAwaited (Channel n) in
+          let said = Refused NotAwaited (Some n) in
           rw (← not_awaited t.ready t.level n found status r e) (
             not_answered status r e ∙ says_step t.ready t.level said block,
             own_place (saying t.ready t.level said) refl (stays_place t.ready t.level),

@@ -1,5 +1,6 @@
 -- The laws of a number's rules: what both ends have in common, whatever the view; a Create response, by its tests.
 -- Assumes nothing.
+use Rattle.std.specs.Prelude.{None, Some}
 use mathlib.Core.Path.{◌≡◌, refl}
 use mathlib.Core.Bool.{Bool, true, false, not, ◌&&◌}
 use Prim.Native.Nat.{ℕ}
@@ -7,7 +8,6 @@ use lib.IntN.{ℤ, pos, negsuc}
 use Rattle.numbers.specs.Status.{is_success}
 use Rattle.paper.specs.declared.Refusal.TheVariants.{WrongTime, NotAwaited}
 use Rattle.channel.specs.declared.Record.{Record}
-use Rattle.channel.specs.declared.Concern.TheVariants.{NoChannel, Channel}
 use Rattle.channel.specs.declared.Change.TheVariants.{Becomes, Frees}
 use Rattle.channel.specs.declared.Part.TheVariants.{Keeps, Clears}
 use Rattle.channel.specs.declared.Reply.TheVariants.{NoReply}
@@ -28,13 +28,13 @@ below_zero (pos k) = refl
 below_zero (negsuc k) = refl
 
 module _ (ready : Bool) (level n : ℕ) (row : Record) (status : ℤ) where
-  pub too_soon_law : ready ≡ false → saying ready level (Refused WrongTime NoChannel) ≡ settling ready level n row status
+  pub too_soon_law : ready ≡ false → saying ready level (Refused WrongTime None) ≡ settling ready level n row status
   unfolding settling
   too_soon_law e = rw e refl
 
   module _ (e : ready ≡ true) where
     pub not_awaited :
-        (row.taken && row.awaited) ≡ false → saying ready level (Refused NotAwaited (Channel n)) ≡ settling ready level n row status
+        (row.taken && row.awaited) ≡ false → saying ready level (Refused NotAwaited (Some n)) ≡ settling ready level n row status
     unfolding settling
     not_awaited f = rw (e, f) refl
 

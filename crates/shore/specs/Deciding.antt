@@ -1,9 +1,8 @@
 -- What a matter comes to at the shore, told with no bytes in hand. Nobody need believe this page: proofs/Deciding shows that
 -- what is decided, put back, is the step.
-use Rattle.std.specs.Prelude.{ℕ, Bool, true, cond, ◌&&◌, ◌||◌, eqb, ℤ}
+use Rattle.std.specs.Prelude.{ℕ, Bool, true, cond, ◌&&◌, ◌||◌, eqb, ℤ, None, Some}
 use Rattle.paper.specs.declared.Refusal.TheVariants.{WrongTime, NotAwaited}
 use Rattle.channel.specs.declared.Record.{Record}
-use Rattle.channel.specs.declared.Concern.TheVariants.{NoChannel, Channel}
 use Rattle.channel.specs.declared.Ask.TheVariants as ask
 use Rattle.channel.specs.declared.Change.{Change}
 use Rattle.channel.specs.declared.Change.TheVariants.{Stays, Becomes, Frees}
@@ -35,7 +34,7 @@ saying ready level said = deciding ready level Stays Keeps said NoReply
 -- a Capabilities response
 unfoldable pub responding : ℕ → Bool → ℕ → ℕ → Decided
 responding asked ready level version =
-    cond (ready || eqb asked 0) (saying ready level (Refused WrongTime NoChannel))
+    cond (ready || eqb asked 0) (saying ready level (Refused WrongTime None))
     (saying true (level_between asked version) (Ready (level_between asked version)))
 
 -- a Create response
@@ -45,8 +44,8 @@ settling ready level n row status =
     (cond (row.taken && row.awaited)
     (cond (is_below_zero status) (deciding ready level Frees Clears (Declined n) NoReply)
     (deciding ready level (Becomes (settled_record row)) Keeps (Opened n) NoReply))
-    (saying ready level (Refused NotAwaited (Channel n))))
-    (saying ready level (Refused WrongTime NoChannel))
+    (saying ready level (Refused NotAwaited (Some n))))
+    (saying ready level (Refused WrongTime None))
 
 -- what the common rules see of a record: an awaited number isn't open
 unfoldable pub seen_row : Record → Record

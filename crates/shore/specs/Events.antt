@@ -1,11 +1,9 @@
 -- What the shore is asked: by a PDU of the client, and by its host.
-use Rattle.std.specs.Prelude.{ℕ, List}
+use Rattle.std.specs.Prelude.{ℕ, List, Option, None, Some}
 use Rattle.paper.specs.declared.Refusal.{Refusal}
 use Rattle.paper.specs.declared.Refusal.TheVariants.{WrongTime}
 use Rattle.reading.specs.Said.{bytes_at}
 use Rattle.reading.specs.Garbled.{carries}
-use Rattle.reading.specs.declared.Carried.{Carried}
-use Rattle.reading.specs.declared.Carried.TheVariants.{NoNumber, Number}
 use Rattle.reading.specs.declared.Charges.{Charges}
 use Rattle.reading.specs.declared.Pdu.{Pdu}
 use Rattle.reading.specs.declared.Pdu.TheVariants.{CreateRequest, CreateResponse, DataFirst, Data, Close}
@@ -27,9 +25,9 @@ pub data Event : Type 0 where
   Of : ℕ → Deed → Event
 
 -- a PDU that reading refuses, by the number that it carries
-unfoldable pub unread : Refusal → Carried → Event
-unread why NoNumber = Unreadable why
-unread why (Number n) = Of n (Acts (Garbled why))
+unfoldable pub unread : Refusal → Option ℕ → Event
+unread why None = Unreadable why
+unread why (Some n) = Of n (Acts (Garbled why))
 
 -- a PDU's event, from what reading answers. Requests are never read in a PDU from the client.
 unfoldable pub event_of : List ℕ → Pdu → Event

@@ -1,11 +1,10 @@
 -- THE RULES OF ONE NUMBER AT THE SHORE: what each event does to it, what is answered and what is sent. Data, garbled blocks
 -- and closes go through the rules that both ends have in common, `act` (channel); what is this end's own stands here.
-use Rattle.std.specs.Prelude.{ℕ, Bool, true, false, cond, List, [], ℤ, pos, negsuc}
+use Rattle.std.specs.Prelude.{ℕ, Bool, true, false, cond, List, [], ℤ, pos, negsuc, Some}
 use Rattle.paper.specs.declared.Refusal.TheVariants.{NotAwaited}
 use Rattle.laying.specs.Laying.{create_request_bytes}
 use Rattle.channel.specs.declared.Stage.TheVariants.{Idle}
 use Rattle.channel.specs.declared.Record.{Record}
-use Rattle.channel.specs.declared.Concern.TheVariants.{Channel}
 use Rattle.channel.specs.Channel.{Act, BadCreate, Create, Bring, Garbled, Closing, LocalClose, View, Shut, Open, NoRoom, Did}
 use Rattle.channel.specs.Channel.{class_at, act}
 use Rattle.shore.specs.declared.Said.{Said}
@@ -58,7 +57,7 @@ settled n r part status =
 
 -- 16: "response for a number not awaited"
 abbrev pub unawaited : ℕ → View → Does
-unawaited n v = does v (Refused NotAwaited (Channel n)) []
+unawaited n v = does v (Refused NotAwaited (Some n)) []
 
 -- ---- what both ends have in common
 

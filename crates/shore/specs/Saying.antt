@@ -1,8 +1,6 @@
 -- An answer of the shore end in the paper's terms: the desk's word, the channel and the number.
-use Rattle.std.specs.Prelude.{ℕ}
+use Rattle.std.specs.Prelude.{ℕ, Option, None, Some}
 use Rattle.paper.specs.Refusals.{refusal_number}
-use Rattle.channel.specs.declared.Concern.{Concern}
-use Rattle.channel.specs.declared.Concern.TheVariants.{NoChannel, Channel}
 use Rattle.channel.specs.declared.Answer.{Answer}
 use Rattle.channel.specs.declared.Answer.TheVariants as client
 use Rattle.shore.specs.declared.Said.{Said}
@@ -25,16 +23,16 @@ word_said (Ignored n) = ignored
 word_said (Refused why concern) = refused
 
 -- the channel, "or `-` for asked, ready, refusals 1 to 7 and 15 and every refusal of the request or a local open"
-unfoldable pub concern_said : Said → Concern
-concern_said (Asked version) = NoChannel
-concern_said (Ready level) = NoChannel
-concern_said (Awaited n) = Channel n
-concern_said (Opened n) = Channel n
-concern_said (Declined n) = Channel n
-concern_said (Held n left) = Channel n
-concern_said (Message n len) = Channel n
-concern_said (Closed n) = Channel n
-concern_said (Ignored n) = Channel n
+unfoldable pub concern_said : Said → Option ℕ
+concern_said (Asked version) = None
+concern_said (Ready level) = None
+concern_said (Awaited n) = Some n
+concern_said (Opened n) = Some n
+concern_said (Declined n) = Some n
+concern_said (Held n left) = Some n
+concern_said (Message n len) = Some n
+concern_said (Closed n) = Some n
+concern_said (Ignored n) = Some n
 concern_said (Refused why concern) = concern
 
 -- "number: the version for asked, the level for ready, bytes still to come, message length, refusal number, else 0"

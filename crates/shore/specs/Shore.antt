@@ -1,6 +1,6 @@
 -- The shore's steps. One number's rules are `deed`; here stand what a step does with the state, refusals 1, 7, 15, 5 and 11,
 -- and what each call answers and leaves in every buffer.
-use Rattle.std.specs.Prelude.{ℕ, min, Bool, true, false, cond, not, ◌||◌, List, [], eqb, ltb, length}
+use Rattle.std.specs.Prelude.{ℕ, min, Bool, true, false, cond, not, ◌||◌, List, [], eqb, ltb, length, None, Err, Ok}
 use Rattle.paper.specs.Sizes.{PARTS, STORE, PDU_MAX}
 use Rattle.paper.specs.Rows.{refuse}
 use Rattle.paper.specs.declared.Refusal.{Refusal}
@@ -10,7 +10,6 @@ use Rattle.reading.specs.Reading.{read_pdu}
 use Rattle.reading.specs.declared.Charges.{Charges}
 use Rattle.laying.specs.Laying.{create_request_bytes, caps_request_bytes}
 use Rattle.writing.specs.Writing.{bad_request, bad_capabilities}
-use Rattle.channel.specs.declared.Concern.TheVariants.{NoChannel}
 use Rattle.channel.specs.Channel.{LocalClose, View, class_at}
 use Rattle.channel.specs.Turns.{OUR_VERSION}
 use Rattle.deciding.specs.Deciding.{too_soon}
@@ -19,7 +18,6 @@ use Rattle.table.specs.Table.{empty_table, free_place, with_record}
 use Rattle.table.specs.Sound.{sound_table}
 use Rattle.connection.specs.States.{State, state_of, view, save}
 use Rattle.client.specs.Client.{bad_call, place_for}
-use Rattle.client.specs.declared.Begun.TheVariants.{Done, Refused as NotBegun}
 use Rattle.shore.specs.declared.Said.{Said}
 use Rattle.shore.specs.declared.Said.TheVariants.{Asked, Ready, Awaited, Refused}
 use Rattle.shore.specs.declared.Shore.{Shore}
@@ -62,7 +60,7 @@ step_to st said sent = record { state = st; said = said; sent = sent }
 
 -- a refusal that concerns no channel, and changes nothing
 abbrev pub refused : Standing → Refusal → Stepped
-refused st why = step_to st (Refused why NoChannel) []
+refused st why = step_to st (Refused why None) []
 
 -- "it sends the Capabilities request once, of the host's version and charges". 7: "a second request".
 unfoldable pub asking : Standing → ℕ → Charges → Stepped
@@ -208,5 +206,5 @@ unfoldable pub started : List ℕ → Started
 started store =
     record {
       shore = record { table = empty_table; asked = 0 };
-      begun = cond (eqb (length store) STORE) Done (NotBegun BadCall);
+      begun = cond (eqb (length store) STORE) (Ok tt) (Err BadCall);
     }

@@ -16,7 +16,7 @@ ghost use Rattle.reading.specs.Garbled.{carries};
 ghost use Rattle.channel.specs.Turns.{reply_told};
 ghost use Rattle.table.specs.Sound.{sound_table};
 ghost use Rattle.deciding.specs.Deciding.{decided_of as decidedBy};
-ghost use Rattle.client.specs.Client.{store_started, place_if};
+ghost use Rattle.client.specs.Client.{store_started};
 ghost use Rattle.shore.specs.Saying.{concern_said, number_said, said_as};
 ghost use Rattle.shore.specs.Rules.{is_below_zero, awaited_record, settled_record};
 ghost use Rattle.shore.specs.Numbers.{least_number};
@@ -25,12 +25,11 @@ ghost use Rattle.shore.specs.Shore.{requested, locally_opened, started};
 ghost use Rattle.shore.specs.Asking.{nowhere, unread_heard, heard_in, closing_of, told, event_asked};
 ghost use Rattle.shore.specs.Deciding.{saying, responding, settling, seen_row, as_common, decided_of};
 
-use channel::{Answer, Ask, Change, Concern, Offer, Part, Record, Reply, Stage};
-use client::Begun;
+use channel::{Answer, Ask, Change, Offer, Part, Record, Reply, Stage};
+use client::{Asked, bare};
 use paper::{PARTS, PDU_MAX, Refusal};
-use reading::{Carried, Charges, Extent, Pdu};
+use reading::{Charges, Extent, Pdu};
 use table::Table;
-use writing::Written;
 
 // What the host keeps beside the store.
 #[derive(Clone, Copy)]
@@ -44,7 +43,7 @@ pub struct Shore {
 #[derive(Clone, Copy)]
 pub struct Started {
     pub shore: Shore,
-    pub begun: Begun,
+    pub begun: Result<(), Refusal>,
 }
 
 // The answer to a call.
@@ -65,7 +64,7 @@ pub enum Said {
     Message { number: u32, len: usize },
     Closed { number: u32 },
     Ignored { number: u32 },
-    Refused { why: Refusal, concern: Concern },
+    Refused { why: Refusal, concern: Option<u32> },
 }
 
 // What `receive` and `local_close` give: what the host keeps, the answer, how many bytes of the reply to send, and the place
@@ -102,14 +101,6 @@ pub enum Matter {
     End { local: bool },
 }
 
-// What a PDU asks: of the number, if of any, what, and where in the PDU the block lies.
-#[derive(Clone, Copy)]
-pub struct Heard {
-    pub number: u32,
-    pub matter: Matter,
-    pub block: Extent,
-}
-
 // What a matter comes to.
 #[derive(Clone, Copy)]
 pub struct Decided {
@@ -122,19 +113,19 @@ pub struct Decided {
 }
 
 // The channel that the answer concerns.
-pub fn concerns(said: Said) -> Concern
+pub fn concerns(said: Said) -> Option<u32>
     ensures { result ≡ concern_said said }
 {
     match said {
-        Said::Asked { version: _ } => Concern::NoChannel,
-        Said::Ready { level: _ } => Concern::NoChannel,
-        Said::Awaited { number } => Concern::Channel(number),
-        Said::Opened { number } => Concern::Channel(number),
-        Said::Declined { number } => Concern::Channel(number),
-        Said::Held { number, left: _ } => Concern::Channel(number),
-        Said::Message { number, len: _ } => Concern::Channel(number),
-        Said::Closed { number } => Concern::Channel(number),
-        Said::Ignored { number } => Concern::Channel(number),
+        Said::Asked { version: _ } => None,
+        Said::Ready { level: _ } => None,
+        Said::Awaited { number } => Some(number),
+        Said::Opened { number } => Some(number),
+        Said::Declined { number } => Some(number),
+        Said::Held { number, left: _ } => Some(number),
+        Said::Message { number, len: _ } => Some(number),
+        Said::Closed { number } => Some(number),
+        Said::Ignored { number } => Some(number),
         Said::Refused { why: _, concern } => concern,
     }
 }
@@ -175,30 +166,18 @@ fn said_as(answer: Answer) -> Said
 
 // ---- what a PDU asks
 
-// What is asked with no block.
-fn bare(number: u32, matter: Matter) -> Heard
-    ensures { result ≡ record { number = number; matter = matter; block = nowhere } }
-{
-    let block = Extent { at: 0, len: 0 };
-    Heard {
-        number,
-        matter,
-        block,
-    }
-}
-
-// What a PDU asks that reading refuses, by the number that it carries.
-fn unread(pdu: &[u8], why: Refusal) -> Heard
+// What a PDU asks that reading refuses, by the number that it carries, as one of this end's matters.
+fn unread(pdu: &[u8], why: Refusal) -> Asked<Matter>
     ensures { result ≡ unread_heard why (carries pdu.now) }
 {
     match reading::carries(pdu) {
-        Carried::NoNumber => bare(0, Matter::Unread { why, whole: false }),
-        Carried::Number(number) => bare(number, Matter::Unread { why, whole: true }),
+        None => bare(0, Matter::Unread { why, whole: false }),
+        Some(number) => bare(number, Matter::Unread { why, whole: true }),
     }
 }
 
 // A kind that is never read in a PDU from the client.
-fn wrong_way() -> Heard
+fn wrong_way() -> Asked<Matter>
     ensures { result ≡ record { number = 0; matter = Matter.Unread Refusal.WrongTime false; block = nowhere } }
 {
     bare(
@@ -211,7 +190,7 @@ fn wrong_way() -> Heard
 }
 
 // What a PDU from the client asks. Requests are never read in one.
-pub fn hear(pdu: &[u8]) -> Heard
+pub fn hear(pdu: &[u8]) -> Asked<Matter>
     ensures { result ≡ heard_in pdu.now (read_pdu false pdu.now) }
 {
     match reading::read(pdu, false) {
@@ -222,12 +201,12 @@ pub fn hear(pdu: &[u8]) -> Heard
             number,
             length,
             block,
-        } => Heard {
+        } => Asked {
             number,
             matter: Matter::Block(Offer::First(length)),
             block,
         },
-        Pdu::Data { number, block } => Heard {
+        Pdu::Data { number, block } => Asked {
             number,
             matter: Matter::Block(Offer::More),
             block,
@@ -246,7 +225,7 @@ pub fn hear(pdu: &[u8]) -> Heard
 }
 
 // What a close by the host asks.
-pub fn closing(number: u32) -> Heard
+pub fn closing(number: u32) -> Asked<Matter>
     ensures { result ≡ closing_of number }
 {
     bare(number, Matter::End { local: true })
@@ -270,14 +249,14 @@ fn says(ready: bool, level: u8, said: Said) -> Decided
 
 // Refusal 7.
 fn too_soon(ready: bool, level: u8) -> Decided
-    ensures { result ≡ saying ready level (Said.Refused Refusal.WrongTime Concern.NoChannel) }
+    ensures { result ≡ saying ready level (Said.Refused Refusal.WrongTime None) }
 {
     says(
         ready,
         level,
         Said::Refused {
             why: Refusal::WrongTime,
-            concern: Concern::NoChannel,
+            concern: None,
         },
     )
 }
@@ -286,16 +265,7 @@ fn too_soon(ready: bool, level: u8) -> Decided
 fn level_between(asked: u16, version: u16) -> u8
     ensures { result ≡ level_between asked version }
 {
-    if asked < version {
-        if asked < channel::OUR_VERSION {
-            return asked as u8;
-        }
-        return channel::OUR_VERSION as u8;
-    }
-    if version < channel::OUR_VERSION {
-        return version as u8;
-    }
-    channel::OUR_VERSION as u8
+    asked.min(version).min(channel::OUR_VERSION) as u8
 }
 
 // A Capabilities response makes the connection ready, if it was asked for.
@@ -323,12 +293,10 @@ fn settled(row: Record) -> Record
     ensures { result ≡ settled_record row }
 {
     Record {
-        number: row.number,
         stage: Stage::Idle,
-        taken: row.taken,
         awaited: false,
-        class: row.class,
         count: 0,
+        ..row
     }
 }
 
@@ -345,7 +313,7 @@ fn settle(ready: bool, level: u8, number: u32, row: Record, status: i32) -> Deci
             level,
             Said::Refused {
                 why: Refusal::NotAwaited,
-                concern: Concern::Channel(number),
+                concern: Some(number),
             },
         );
     }
@@ -464,16 +432,6 @@ pub fn decide(
 
 // ---- calls that are lent the store and the reply
 
-// The place, if the answer concerns a channel.
-fn place_for(said: Said, place: usize) -> usize
-    ensures { result ≡ place_if (concern_said said) place }
-{
-    match concerns(said) {
-        Concern::NoChannel => PARTS,
-        Concern::Channel(_) => place,
-    }
-}
-
 // What is asked is done: the number's record is found, what it comes to is decided, and that is put back.
 fn taken(
     shore: Shore,
@@ -516,19 +474,22 @@ fn taken(
         },
         said,
         sent,
-        place: place_for(said, connection::place_after(k, row.taken, change)),
+        place: client::place_if(
+            concerns(said),
+            connection::place_after(k, row.taken, change),
+        ),
     }
 }
 
-// Refusal 1 gives back what came in.
+// Refusal 1 gives back what came in, which is each end's own.
 fn refused(shore: Shore) -> Given
-    ensures { result ≡ record { shore = shore; said = Said.Refused Refusal.BadCall Concern.NoChannel; sent = 0; place = PARTS } }
+    ensures { result ≡ record { shore = shore; said = Said.Refused Refusal.BadCall None; sent = 0; place = PARTS } }
 {
     Given {
         shore,
         said: Said::Refused {
             why: Refusal::BadCall,
-            concern: Concern::NoChannel,
+            concern: None,
         },
         sent: 0,
         place: PARTS,
@@ -536,7 +497,7 @@ fn refused(shore: Shore) -> Given
 }
 
 // A call: refusal 1, and behind it what is asked.
-fn step(shore: Shore, store: &mut [u8], heard: Heard, pdu: &[u8], reply: &mut [u8]) -> Given
+fn step(shore: Shore, store: &mut [u8], heard: Asked<Matter>, pdu: &[u8], reply: &mut [u8]) -> Given
     ensures value { result ≡ (called shore store.old
         (event_asked heard pdu.now) reply.old).result }
     ensures store_after { store.new ≡ (called shore store.old
@@ -547,11 +508,14 @@ fn step(shore: Shore, store: &mut [u8], heard: Heard, pdu: &[u8], reply: &mut [u
     if client::bad_call(shore.table, store.len(), reply.len()) {
         return refused(shore);
     }
-    let matter = heard.matter;
-    let block = heard.block;
-    let at = lists::lesser(block.at, pdu.len());
-    let end = at + lists::lesser(block.len, pdu.len() - at);
-    taken(shore, store, heard.number, matter, &pdu[at..end], reply)
+    taken(
+        shore,
+        store,
+        heard.number,
+        heard.matter,
+        heard.block.of(pdu),
+        reply,
+    )
 }
 
 // Zeroes the store and gives the empty table. A store of another size is left as it is.
@@ -590,14 +554,11 @@ pub fn local_close(shore: Shore, store: &mut [u8], number: u32, reply: &mut [u8]
 
 // A refusal of the request or of a local open: it concerns no channel, and gives back what came in.
 fn unsent(shore: Shore, why: Refusal) -> Sending
-    ensures { result ≡ record { shore = shore; said = Said.Refused why Concern.NoChannel; sent = 0 } }
+    ensures { result ≡ record { shore = shore; said = Said.Refused why None; sent = 0 } }
 {
     Sending {
         shore,
-        said: Said::Refused {
-            why,
-            concern: Concern::NoChannel,
-        },
+        said: Said::Refused { why, concern: None },
         sent: 0,
     }
 }
@@ -624,8 +585,8 @@ pub fn request(shore: Shore, version: u16, charges: Charges, out: &mut [u8]) -> 
         return unsent(shore, Refusal::WrongTime);
     }
     match writing::write_capabilities_request(out, version, charges) {
-        Written::Refused(why) => unsent(shore, why),
-        Written::Length(sent) => {
+        Err(why) => unsent(shore, why),
+        Ok(sent) => {
             let table = shore.table;
             Sending {
                 shore: Shore {
@@ -643,28 +604,21 @@ pub fn request(shore: Shore, version: u16, charges: Charges, out: &mut [u8]) -> 
 fn least_number(table: Table) -> u32
     ensures { result ≡ least_number table }
 {
-    let mut number = 1;
-    while number <= PARTS as u32 {
+    for number in 1..PARTS as u32 + 1 {
         if PARTS <= table::find_number(table, number).place {
             return number;
         }
-        number += 1;
     }
-    number
+    PARTS as u32 + 1
 }
 
 // The record that a number has from the local open on.
 pub fn awaited(level: u8, number: u32, class: u8) -> Record
     ensures { result ≡ awaited_record level number class }
 {
-    let class = channel::class_at(level, class) as u32;
     Record {
-        number,
-        stage: Stage::Idle,
-        taken: true,
         awaited: true,
-        class,
-        count: 0,
+        ..channel::opened(level, number, class)
     }
 }
 
@@ -687,8 +641,8 @@ pub fn open(shore: Shore, name: &[u8], class: u8, out: &mut [u8]) -> Sending
     let number = least_number(table);
     let sends = channel::class_at(table.level, class);
     match writing::write_create_request(out, number, sends, name) {
-        Written::Refused(why) => unsent(shore, why),
-        Written::Length(sent) => {
+        Err(why) => unsent(shore, why),
+        Ok(sent) => {
             let row = table::blank();
             let change = Change::Becomes(awaited(table.level, number, class));
             let next = table::put(table, table.ready, table.level, k, row, change);

@@ -1,6 +1,7 @@
 -- What a refused call leaves: nothing is sent, no byte changes, and the table is as it was, but that the refusals that spoil turn the
 -- stage of the one open record that holds the number to spoiled. What the common rules leave is the client's law (`act_quiet`).
 -- Assumes nothing.
+use Rattle.std.specs.Prelude.{Option, None, Some}
 use mathlib.Core.Path.{◌≡◌, refl, sym, ap, ◌∙◌, subst}
 use mathlib.Core.Logic.{◌≢◌, ⊎_elim}
 use mathlib.Core.Bool.{Bool, true, false, cond, not, ◌&&◌, ◌||◌}
@@ -17,8 +18,6 @@ use Rattle.lists.specs.Bytes.{laid}
 use Rattle.lists.proofs.Cases.{choice, and_false, both, true_not_false}
 use Rattle.reading.specs.Reading.{read_pdu}
 use Rattle.reading.specs.Garbled.{carries}
-use Rattle.reading.specs.declared.Carried.{Carried}
-use Rattle.reading.specs.declared.Carried.TheVariants.{NoNumber, Number}
 use Rattle.reading.specs.declared.Charges.{Charges}
 use Rattle.reading.specs.declared.Pdu.{Pdu}
 use Rattle.reading.specs.declared.Pdu.TheVariants.{CreateRequest, CreateResponse, DataFirst, Data, Close}
@@ -26,8 +25,6 @@ use Rattle.reading.specs.declared.Pdu.TheVariants.{CapsRequest, CapsResponse, Re
 use Rattle.reading.proofs.Placed.{ReadingRefusal, Placed, placed}
 use Rattle.writing.specs.Writing.{bad_capabilities}
 use Rattle.channel.specs.declared.Record.{Record}
-use Rattle.channel.specs.declared.Concern.{Concern}
-use Rattle.channel.specs.declared.Concern.TheVariants.{NoChannel, Channel}
 use Rattle.channel.specs.declared.Answer.{Answer}
 use Rattle.channel.specs.declared.Answer.TheVariants as client
 use Rattle.channel.specs.Channel.{Act, BadCreate, Create, Bring, Garbled, Closing, LocalClose, View, Shut, Open, NoRoom, act}
@@ -61,7 +58,7 @@ use Rattle.shore_demands.proofs.Refusals.{seen_as}
 -- ---- what the rules of one number leave where they refuse
 
 -- a refusal that is said is one that the common rules answer
-answer_refused : (a : Answer) (why : Refusal) (concern : Concern) → said_as a ≡ Refused why concern → a ≡ client.Refused why concern
+answer_refused : (a : Answer) (why : Refusal) (concern : Option ℕ) → said_as a ≡ Refused why concern → a ≡ client.Refused why concern
 unfolding said_as
 answer_refused (client.Ready level) why concern e = cc
 answer_refused (client.Opened n) why concern e = cc
@@ -137,7 +134,7 @@ module _ (n : ℕ) (a : Act) (st : State) (g : Steady st) (why : Refusal) (w : V
 
 -- a Create response is refused with 16 alone, and leaves the number
 answered_refused :
-    (level n : ℕ) (v : View) (status : ℤ) (why : Refusal) (concern : Concern)
+    (level n : ℕ) (v : View) (status : ℤ) (why : Refusal) (concern : Option ℕ)
     → (deed level n v (Answered status)).said ≡ Refused why concern → deed level n v (Answered status) ≡ unawaited n v
 unfolding deed settled
 answered_refused level n Shut status why concern e = refl
@@ -147,7 +144,7 @@ answered_refused level n (Open r b) status why concern e =
 
 -- ---- what a refused step leaves
 
-record Refusing (st : Standing) (e : Event) (s : Stepped) (why : Refusal) (concern : Concern) : Type 0 where
+record Refusing (st : Standing) (e : Event) (s : Stepped) (why : Refusal) (concern : Option ℕ) : Type 0 where
   pub silent : s.sent ≡ []
   pub concerns : concern ≡ concerned why e
   pub left : s.state ≡ with_state st (state_of (left_by why e st.shore.table) st.store)
@@ -155,7 +152,7 @@ record Refusing (st : Standing) (e : Event) (s : Stepped) (why : Refusal) (conce
 
 -- a refusal that spoils nothing
 refused_here :
-    (st : Standing) (e : Event) (x : Refusal) (c : Concern) (why : Refusal) (concern : Concern) → is_of_three x ≡ false → c ≡ concerned x e
+    (st : Standing) (e : Event) (x : Refusal) (c : Option ℕ) (why : Refusal) (concern : Option ℕ) → is_of_three x ≡ false → c ≡ concerned x e
     → left_by x e st.shore.table ≡ st.shore.table → Refused x c ≡ Refused why concern → Refusing st e (step_to st (Refused x c) []) why concern
 refused_here st e x c why concern s k l h =
     let p : x ≡ why = cc in
@@ -178,7 +175,7 @@ Mild (Of n (Answered status)) = Unit {0}
 Mild (Of n (Acts a)) = MildAct a
 
 -- too early: a refusal up to 7
-soon_so : (n : ℕ) (d : Deed) → Mild (Of n d) → (is_of_three (too_soon_for d) ≡ false) × (NoChannel ≡ concerned (too_soon_for d) (Of n d))
+soon_so : (n : ℕ) (d : Deed) → Mild (Of n d) → (is_of_three (too_soon_for d) ≡ false) × (None ≡ concerned (too_soon_for d) (Of n d))
 unfolding too_soon_for concerned
 soon_so n (Answered status) m = (time_kept, refl)
 soon_so n (Acts a) m = let s = soon_says a m in (s.0, rw s.1)
@@ -194,7 +191,7 @@ unready_shut : (n : ℕ) (t : Table) → length t.records ≡ PARTS → sound_ta
 unfolding is_open_at is_open
 unready_shut n t rows sound e = rw (none_open n t rows sound e)
 
-module _ (st : Standing) (sane : Sane (state_in st)) (why : Refusal) (concern : Concern) where
+module _ (st : Standing) (sane : Sane (state_in st)) (why : Refusal) (concern : Option ℕ) where
   -- the number's rules, put back
   ruled_refusing :
       (n : ℕ) (d : Deed) → Mild (Of n d) → st.shore.table.ready ≡ true → (done n st d).said ≡ Refused why concern
@@ -203,7 +200,7 @@ module _ (st : Standing) (sane : Sane (state_in st)) (why : Refusal) (concern : 
   ruled_refusing n (Answered status) m r e =
       let v = view n (state_in st) in
       rw (answered_refused st.shore.table.level n v status why concern e, save_own n (state_in st) sane.bytes)
-      (refused_here st (Of n (Answered status)) NotAwaited (Channel n) why concern refl refl refl
+      (refused_here st (Of n (Answered status)) NotAwaited (Some n) why concern refl refl refl
       (ap (λ (x : Does). x.said) (sym (answered_refused st.shore.table.level n v status why concern e)) ∙ e))
   ruled_refusing n (Acts a) m r e =
       let t = st.shore.table in
@@ -220,17 +217,17 @@ module _ (st : Standing) (sane : Sane (state_in st)) (why : Refusal) (concern : 
   of_refusing n d m true r e = ruled_refusing n d m r e
   of_refusing n d m false r e =
       let s = soon_so n d m in
-      refused_here st (Of n d) (too_soon_for d) NoChannel why concern s.0 s.1
+      refused_here st (Of n d) (too_soon_for d) None why concern s.0 s.1
       (shut_left n d (too_soon_for d) st.shore.table (unready_shut n st.shore.table sane.rows sane.sound r)) e
 
   step_refusing : (e : Event) → Mild e → (stepped st e).said ≡ Refused why concern → Refusing st e (stepped st e) why concern
   unfolding stepped responded concerned left_by
-  step_refusing (Unreadable x) m h = refused_here st (Unreadable x) x NoChannel why concern m refl refl h
+  step_refusing (Unreadable x) m h = refused_here st (Unreadable x) x None why concern m refl refl h
   step_refusing (Asking version charges) m h = absurd m
   step_refusing (Response version) m h =
       choice (λ (s : Stepped). s.said ≡ Refused why concern → Refusing st (Response version) s why concern)
       (st.shore.table.ready || eqb st.shore.asked 0)
-      (λ r f. refused_here st (Response version) WrongTime NoChannel why concern time_kept refl refl f)
+      (λ r f. refused_here st (Response version) WrongTime None why concern time_kept refl refl f)
       (λ r f. let z : ◌≡◌ {A = ℕ} 0 1 = cc in absurd (omega arith)) h
   step_refusing (Opening name class) m h = absurd m
   step_refusing (Of n d) m h = of_refusing n d m st.shore.table.ready refl h
@@ -238,7 +235,7 @@ module _ (st : Standing) (sane : Sane (state_in st)) (why : Refusal) (concern : 
 -- ---- the calls that are lent the store
 
 whole_refusing :
-    (s : Shore) (store reply : List ℕ) (e : Event) (x : Stepped) (why : Refusal) (concern : Concern)
+    (s : Shore) (store reply : List ℕ) (e : Event) (x : Stepped) (why : Refusal) (concern : Option ℕ)
     → Refusing (standing s store) e x why concern → RefusedCall s store reply e (whole_of reply x) why concern
 unfolding whole_of laid
 whole_refusing s store reply e x why concern r =
@@ -252,7 +249,7 @@ whole_refusing s store reply e x why concern r =
     }
 
 -- refusal 1 spoils nothing and concerns none
-size_left : (e : Event) (t : Table) → (NoChannel ≡ concerned BadCall e) × (left_by BadCall e t ≡ t)
+size_left : (e : Event) (t : Table) → (None ≡ concerned BadCall e) × (left_by BadCall e t ≡ t)
 unfolding left_by concerned
 size_left (Unreadable w) t = (refl, refl)
 size_left (Asking version charges) t = (refl, refl)
@@ -262,7 +259,7 @@ size_left (Of n (Answered status)) t = (refl, refl)
 size_left (Of n (Acts a)) t = (refl, rw (size_spoils a))
 
 guarded_refusing :
-    (s : Shore) (store reply : List ℕ) (e : Event) → length s.table.records ≡ PARTS → Mild e → (why : Refusal) (concern : Concern)
+    (s : Shore) (store reply : List ℕ) (e : Event) → length s.table.records ≡ PARTS → Mild e → (why : Refusal) (concern : Option ℕ)
     → (guarded s store reply (stepped (standing s store) e)).result.said ≡ Refused why concern
     → RefusedCall s store reply e (guarded s store reply (stepped (standing s store) e)) why concern
 unfolding guarded whole_of
@@ -270,15 +267,15 @@ guarded_refusing s store reply e rows mild why concern =
     choice (λ (x : Stepped). x.said ≡ Refused why concern → RefusedCall s store reply e (whole_of reply x) why concern)
     (bad_call s.table (length store) (length reply))
     (λ b h. whole_refusing s store reply e (refused (standing s store) BadCall) why concern
-    (let l = size_left e s.table in refused_here (standing s store) e BadCall NoChannel why concern size_kept l.0 l.1 h))
+    (let l = size_left e s.table in refused_here (standing s store) e BadCall None why concern size_kept l.0 l.1 h))
     (λ b h. let p = proper s.table (length store) (length reply) b in
     whole_refusing s store reply e (stepped (standing s store) e) why concern
     (step_refusing (standing s store) (record { rows = rows; bytes = p.store_size; sound = p.sound }) why concern e mild h))
 
-mild_unread : (why : Refusal) (carried : Carried) → ReadingRefusal why → Mild (unread why carried)
+mild_unread : (why : Refusal) (carried : Option ℕ) → ReadingRefusal why → Mild (unread why carried)
 unfolding unread
-mild_unread why NoNumber h = (of_reading why h).not_three
-mild_unread why (Number n) h = h
+mild_unread why None h = (of_reading why h).not_three
+mild_unread why (Some n) h = h
 
 mild_read : (pdu : List ℕ) (p : Pdu) → Placed pdu p → Mild (event_of pdu p)
 unfolding event_of
@@ -292,7 +289,7 @@ mild_read pdu (CapsResponse version) h = tt
 mild_read pdu (Unread why) h = mild_unread why (carries pdu) h
 
 pub receive_refused :
-    (s : Shore) (store pdu reply : List ℕ) (why : Refusal) (concern : Concern) → length s.table.records ≡ PARTS
+    (s : Shore) (store pdu reply : List ℕ) (why : Refusal) (concern : Option ℕ) → length s.table.records ≡ PARTS
     → (received s store pdu reply).result.said ≡ Refused why concern
     → RefusedCall s store reply (event_of pdu (read_pdu false pdu)) (received s store pdu reply) why concern
 unfolding received
@@ -300,7 +297,7 @@ receive_refused s store pdu reply why concern rows e =
     guarded_refusing s store reply (event_of pdu (read_pdu false pdu)) rows (mild_read pdu (read_pdu false pdu) (placed pdu false)) why concern e
 
 pub local_close_refused :
-    (s : Shore) (store : List ℕ) (n : ℕ) (reply : List ℕ) (why : Refusal) (concern : Concern)
+    (s : Shore) (store : List ℕ) (n : ℕ) (reply : List ℕ) (why : Refusal) (concern : Option ℕ)
     → length s.table.records ≡ PARTS → (locally_closed s store n reply).result.said ≡ Refused why concern
     → RefusedCall s store reply (Of n (Acts LocalClose)) (locally_closed s store n reply) why concern
 unfolding locally_closed
@@ -308,7 +305,7 @@ local_close_refused s store n reply why concern rows e = guarded_refusing s stor
 
 -- ---- the calls that are lent a written PDU's buffer
 
-module _ (s : Shore) (out : List ℕ) (why : Refusal) (concern : Concern) where
+module _ (s : Shore) (out : List ℕ) (why : Refusal) (concern : Option ℕ) where
   abbrev IfRefused : Stepped → Type 0
   IfRefused x = x.said ≡ Refused why concern → RefusedSending s out (sends_of out x) concern
 

@@ -1,6 +1,7 @@
 -- A run of the shore's calls shows each number as its own machine: the trace theorem's premises, for any steady state and for the
 -- states of a run.
 -- Assumes nothing.
+use Rattle.std.specs.Prelude.{None, Option, Some}
 use mathlib.Core.Path.{◌≡◌, refl, sym, ap, ◌∙◌}
 use mathlib.Core.Logic.{⊎_elim}
 use mathlib.Core.Bool.{Bool, true, false, cond, not, ◌||◌}
@@ -19,8 +20,6 @@ use Rattle.lists.proofs.Cases.{true_not_false, choice, both}
 use Rattle.lists.proofs.Laid.{front}
 use Rattle.reading.specs.Reading.{read_pdu}
 use Rattle.reading.specs.Garbled.{carries}
-use Rattle.reading.specs.declared.Carried.{Carried}
-use Rattle.reading.specs.declared.Carried.TheVariants.{NoNumber, Number}
 use Rattle.reading.specs.declared.Charges.{Charges}
 use Rattle.reading.specs.declared.Pdu.{Pdu}
 use Rattle.reading.specs.declared.Pdu.TheVariants.{CreateRequest, CreateResponse, DataFirst, Data, Close, CapsRequest, CapsResponse}
@@ -30,7 +29,6 @@ use Rattle.laying.specs.Laying.{create_request_bytes}
 use Rattle.laying.proofs.Lengths.{length_caps_request}
 use Rattle.writing.specs.Writing.{bad_request, bad_capabilities}
 use Rattle.channel.specs.declared.Record.{Record}
-use Rattle.channel.specs.declared.Concern.TheVariants.{NoChannel}
 use Rattle.channel.specs.declared.Answer.{Answer}
 use Rattle.channel.specs.declared.Answer.TheVariants as client
 use Rattle.channel.specs.Channel.{Act, BadCreate, Create, Bring, Garbled, Closing, LocalClose, View, Shut, Open, NoRoom}
@@ -162,10 +160,10 @@ Heard (Opening name class) = ⊥
 Heard (Of n d) = Unit {0}
 
 -- a PDU that reading refuses
-heard_unread : (why : Refusal) (carried : Carried) → Heard (unread why carried)
+heard_unread : (why : Refusal) (carried : Option ℕ) → Heard (unread why carried)
 unfolding unread
-heard_unread why NoNumber = tt
-heard_unread why (Number n) = tt
+heard_unread why None = tt
+heard_unread why (Some n) = tt
 
 -- a PDU, by its kind
 heard_read : (pdu : List ℕ) (p : Pdu) → Placed pdu p → Heard (event_of pdu p)
@@ -373,9 +371,9 @@ next_in n f v (Of m d) = (deed f.level n v d).view
 
 -- and what it is told
 abbrev pub told_in : ℕ → Around → View → Event → Told
-told_in n f v (Unreadable why) = tells (Refused why NoChannel) []
-told_in n f v (Asking version charges) = tells (Refused WrongTime NoChannel) []
-told_in n f v (Response version) = tells (Refused WrongTime NoChannel) []
+told_in n f v (Unreadable why) = tells (Refused why None) []
+told_in n f v (Asking version charges) = tells (Refused WrongTime None) []
+told_in n f v (Response version) = tells (Refused WrongTime None) []
 told_in n f v (Opening name class) = told_by (asks f.level n name class f.part)
 told_in n f v (Of m d) = told_by (deed f.level n v d)
 

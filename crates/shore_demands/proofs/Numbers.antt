@@ -1,6 +1,7 @@
 -- The numbers that local opens get hang on the local opens, Create responses and closes alone: a step looks at the table without stages and
 -- counts, and data leaves that as it is. So neighbours may change places.
 -- Assumes nothing.
+use Rattle.std.specs.Prelude.{None}
 use mathlib.Core.Path.{◌≡◌, refl, sym, ap, ◌∙◌}
 use mathlib.Core.Logic.{⊎_elim}
 use mathlib.Core.Bool.{Bool, true, false, cond, not, ◌&&◌}
@@ -19,7 +20,6 @@ use Rattle.laying.specs.Laying.{create_request_bytes}
 use Rattle.writing.specs.Writing.{bad_request}
 use Rattle.channel.specs.declared.Stage.TheVariants.{Idle}
 use Rattle.channel.specs.declared.Record.{Record}
-use Rattle.channel.specs.declared.Concern.TheVariants.{NoChannel}
 use Rattle.channel.specs.Channel.{blank, Act, BadCreate, Create, Bring, Garbled, Closing, LocalClose, View, Shut, Open, NoRoom}
 use Rattle.channel.specs.Channel.{class_at, restaged, landed, act, opening as openings}
 use Rattle.table.specs.declared.Table.{Table}
@@ -258,7 +258,7 @@ glimpse s = record { said = s.said; sent = s.sent; bones = bones_in s.state }
 
 -- refused
 abbrev no : Table → Refusal → Glimpse
-no b why = record { said = Refused why NoChannel; sent = []; bones = b }
+no b why = record { said = Refused why None; sent = []; bones = b }
 
 -- "(local open: 1, 7, 15, 5, 11)", behind 1
 abbrev opened : Table → List ℕ → ℕ → Glimpse
@@ -357,11 +357,11 @@ quiet_of n b c (Of m d) h = refl
 
 -- one of them; others are not asked
 abbrev open_told : Table → Event → Told
-open_told b (Unreadable why) = tells (Refused WrongTime NoChannel) []
-open_told b (Asking version charges) = tells (Refused WrongTime NoChannel) []
-open_told b (Response version) = tells (Refused WrongTime NoChannel) []
+open_told b (Unreadable why) = tells (Refused WrongTime None) []
+open_told b (Asking version charges) = tells (Refused WrongTime None) []
+open_told b (Response version) = tells (Refused WrongTime None) []
 open_told b (Opening name class) = tells (opened b name class).said (opened b name class).sent
-open_told b (Of m d) = tells (Refused WrongTime NoChannel) []
+open_told b (Of m d) = tells (Refused WrongTime None) []
 
 -- by the events alone
 abbrev opens_in : Table → List Event → List Told

@@ -1,6 +1,7 @@
 -- Each refusal number is given exactly when its row of the paper's table holds and no earlier one in its order does. What both
 -- ends have in common says so by the client's laws, which see an awaited number as not open.
 -- Assumes nothing.
+use Rattle.std.specs.Prelude.{Option, None, Some}
 use mathlib.Core.Path.{◌≡◌, refl, ap, ◌∙◌}
 use mathlib.Core.Bool.{Bool, true, false, cond, not, ◌&&◌, ◌||◌}
 use mathlib.Core.List.{List, [], ◌∷◌, ◌++◌}
@@ -17,8 +18,6 @@ use Rattle.reading.specs.Reading.{read_pdu}
 use Rattle.reading.specs.Said.{bytes_at, verdict_on}
 use Rattle.reading.specs.Garbled.{carries}
 use Rattle.reading.specs.Layouts.{reading_rows}
-use Rattle.reading.specs.declared.Carried.{Carried}
-use Rattle.reading.specs.declared.Carried.TheVariants.{NoNumber, Number}
 use Rattle.reading.specs.declared.Charges.{Charges}
 use Rattle.reading.specs.declared.Pdu.{Pdu}
 use Rattle.reading.specs.declared.Pdu.TheVariants.{CreateRequest, CreateResponse, DataFirst, Data, Close}
@@ -167,10 +166,10 @@ module _ (s : Shore) (store : List ℕ) where
   timed_act n a rows soon e = timed n (Acts a) rows soon (common_verdict n a ∙ e)
 
   -- a garbled block gets its refusal, ready or not, open or not
-  unread_says : (why : Refusal) (carried : Carried) → verdict (stepped (standing s store) (unread why carried)) ≡ refused_with why
+  unread_says : (why : Refusal) (carried : Option ℕ) → verdict (stepped (standing s store) (unread why carried)) ≡ refused_with why
   unfolding unread stepped too_soon_for too_soon
-  unread_says why NoNumber = refl
-  unread_says why (Number n) =
+  unread_says why None = refl
+  unread_says why (Some n) =
       of_verdict (standing s store) n (Acts (Garbled why))
       ∙ choice (λ (v : Verdict). v ≡ refused_with why) (not s.table.ready) (λ e. refl)
       (λ e. common_verdict n (Garbled why) ∙ says_garbled s.table.level n NoRoom (row_of n) (part_of n) (is_open_at s.table n) why)

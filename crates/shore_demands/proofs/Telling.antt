@@ -1,5 +1,6 @@
 -- One number's rules tell what `told_alone` says, and stand where `links` says: the joining is the client's, cited and not shown anew.
 -- Assumes nothing.
+use Rattle.std.specs.Prelude.{Option, None, Some}
 use mathlib.Core.Path.{◌≡◌, refl, ap, ◌∙◌}
 use mathlib.Core.Logic.{⊎_elim}
 use mathlib.Core.Bool.{Bool, true, false, cond}
@@ -14,8 +15,6 @@ use Rattle.lists.proofs.Cases.{lt_or_le}
 use Rattle.lists.proofs.Laid.{length_zeros}
 use Rattle.reading.specs.Reading.{read_pdu}
 use Rattle.reading.specs.Garbled.{carries}
-use Rattle.reading.specs.declared.Carried.{Carried}
-use Rattle.reading.specs.declared.Carried.TheVariants.{NoNumber, Number}
 use Rattle.reading.specs.declared.Pdu.{Pdu}
 use Rattle.reading.specs.declared.Pdu.TheVariants.{CreateRequest, CreateResponse, DataFirst, Data, Close, CapsRequest, CapsResponse}
 use Rattle.reading.specs.declared.Pdu.TheVariants.{Refused as Unread}
@@ -320,10 +319,10 @@ alone_once l n k (e ∷ es) = rw (says_once l n k e, alone_once l n (links k e).
 -- ---- what is read in a PDU
 
 -- a PDU that is refused
-unread_blocks : (why : Refusal) (carried : Carried) → FineBlocks (unread why carried)
+unread_blocks : (why : Refusal) (carried : Option ℕ) → FineBlocks (unread why carried)
 unfolding unread
-unread_blocks why NoNumber = tt
-unread_blocks why (Number n) = tt
+unread_blocks why None = tt
+unread_blocks why (Some n) = tt
 
 -- a PDU that is not too long
 short_blocks : (pdu : List ℕ) → length pdu ≤ PDU_MAX → (p : Pdu) → Placed pdu p → FineBlocks (event_of pdu p)

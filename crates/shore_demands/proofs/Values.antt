@@ -1,5 +1,6 @@
 -- The event of a PDU that the shore receives is a function of the values that it says: any two encodings of one value are the same event.
 -- Assumes nothing.
+use Rattle.std.specs.Prelude.{Option}
 use Prim.Native.Nat.{ℕ, ◌≤◌}
 use mathlib.Core.Path.{◌≡◌, refl, ap, ◌∙◌}
 use mathlib.Core.Bool.{false}
@@ -9,7 +10,6 @@ use Rattle.paper.specs.Sizes.{PDU_MAX}
 use Rattle.paper.specs.declared.Refusal.TheVariants.{WrongTime}
 use Rattle.reading.specs.Reading.{read_pdu}
 use Rattle.reading.specs.Garbled.{carries}
-use Rattle.reading.specs.declared.Carried.{Carried}
 use Rattle.reading.specs.Grammar.{Value, create_request_law, create_response_law, data_first_law, data_block, close, capabilities_request, capabilities_response}
 use Rattle.reading.specs.Grammar.{Read, values, refusal, meant, read_as, Encodes}
 use Rattle.reading.specs.declared.Pdu.{Pdu}
@@ -31,7 +31,7 @@ event_of_value (capabilities_request version charges) = Unreadable WrongTime
 event_of_value (capabilities_response version) = Response version
 
 -- or of the refusal, and of the number that the PDU carries
-unfoldable pub event_of_read : Carried → Read → Event
+unfoldable pub event_of_read : Option ℕ → Read → Event
 event_of_read carried (values v) = event_of_value v
 event_of_read carried (refusal why) = unread why carried
 

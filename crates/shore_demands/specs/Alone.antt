@@ -1,9 +1,8 @@
 -- One number of the shore by itself: no table, no record, no store. What its own events bring, and what the host should be
 -- told for them. The joining of an open channel is the client's (`joins`, `step_says`), of which nothing is said anew here.
-use Rattle.std.specs.Prelude.{ℕ, true, cond, List, [], ◌∷◌, ℤ, length}
+use Rattle.std.specs.Prelude.{ℕ, true, cond, List, [], ◌∷◌, ℤ, length, None, Some}
 use Rattle.paper.specs.declared.Refusal.TheVariants.{NotAwaited, WrongTime}
 use Rattle.laying.specs.Laying.{create_request_bytes, close_bytes}
-use Rattle.channel.specs.declared.Concern.TheVariants.{NoChannel, Channel}
 use Rattle.channel.specs.Channel.{Act, BadCreate, Create, Bring, Garbled, Closing, LocalClose, class_at}
 use Rattle.shore.specs.declared.Said.{Said}
 use Rattle.shore.specs.declared.Said.TheVariants.{Asked, Ready, Awaited, Opened, Declined, Held, Message, Closed, Ignored, Refused}
@@ -75,12 +74,12 @@ sent_alone n Dead LocalClose = close_bytes n
 
 -- at a level, for the number n
 unfoldable pub says_alone : ℕ → ℕ → Link → Event → Told
-says_alone level n l (Unreadable why) = tells (Refused why NoChannel) []
-says_alone level n l (Asking version charges) = tells (Refused WrongTime NoChannel) []
-says_alone level n l (Response version) = tells (Refused WrongTime NoChannel) []
+says_alone level n l (Unreadable why) = tells (Refused why None) []
+says_alone level n l (Asking version charges) = tells (Refused WrongTime None) []
+says_alone level n l (Response version) = tells (Refused WrongTime None) []
 says_alone level n l (Opening name class) = tells (Awaited n) (create_request_bytes n (class_at level class) name)
 says_alone level n Awaits (Of m (Answered status)) = tells (cond (is_below_zero status) (Declined n) (Opened n)) []
-says_alone level n (As j) (Of m (Answered status)) = tells (Refused NotAwaited (Channel n)) []
+says_alone level n (As j) (Of m (Answered status)) = tells (Refused NotAwaited (Some n)) []
 says_alone level n l (Of m (Acts a)) =
     record {
       said = said_as (says_if true n (join_for l) a).answer;

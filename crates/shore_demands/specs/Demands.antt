@@ -1,6 +1,6 @@
 -- The demands at the shore end, sentence by sentence, where "Demands 2 and 3 read 'the end's own steps'". What is said of
 -- reading, writing and cutting by themselves is the same at both ends and stands on the client's page.
-use Rattle.std.specs.Prelude.{ℕ, ◌≤◌, ◌<◌, ◌≡◌, ◌≢◌, true, false, ◌&&◌, List, [], ◌∷◌, ◌++◌, length, take}
+use Rattle.std.specs.Prelude.{ℕ, ◌≤◌, ◌<◌, ◌≡◌, ◌≢◌, true, false, ◌&&◌, List, [], ◌∷◌, ◌++◌, length, take, Option}
 use Rattle.paper.specs.Sizes.{PARTS, PART, STORE, REPLY_MIN, PDU_MAX}
 use Rattle.paper.specs.Rows.{first_held, comes_to}
 use Rattle.paper.specs.declared.Refusal.{Refusal}
@@ -9,7 +9,6 @@ use Rattle.numbers.specs.Numbers.{NUMBERS}
 use Rattle.reading.specs.Reading.{read_pdu}
 use Rattle.reading.specs.declared.Charges.{Charges}
 use Rattle.reading.specs.Grammar.{create_request_law, close, capabilities_request, values, read_as, SmallCharges}
-use Rattle.channel.specs.declared.Concern.{Concern}
 use Rattle.channel.specs.declared.Record.{Record}
 use Rattle.channel.specs.declared.Stage.TheVariants.{Idle}
 use Rattle.channel.specs.Channel.{LocalClose, Shut, Open, blank, class_at}
@@ -90,19 +89,19 @@ pub record BadInputGetsItsNumber : Type 0 where
 -- spoiled", and those of garbled blocks
 pub record ARefusalLeavesAll : Type 0 where
   pub receive :
-      (s : Shore) (store pdu reply : List ℕ) (why : Refusal) (concern : Concern) → length s.table.records ≡ PARTS
+      (s : Shore) (store pdu reply : List ℕ) (why : Refusal) (concern : Option ℕ) → length s.table.records ≡ PARTS
       → (received s store pdu reply).result.said ≡ Refused why concern
       → RefusedCall s store reply (event_of pdu (read_pdu false pdu)) (received s store pdu reply) why concern
   pub local_close :
-      (s : Shore) (store : List ℕ) (n : ℕ) (reply : List ℕ) (why : Refusal) (concern : Concern)
+      (s : Shore) (store : List ℕ) (n : ℕ) (reply : List ℕ) (why : Refusal) (concern : Option ℕ)
       → length s.table.records ≡ PARTS → (locally_closed s store n reply).result.said ≡ Refused why concern
       → RefusedCall s store reply (Of n (Acts LocalClose)) (locally_closed s store n reply) why concern
   pub request :
-      (s : Shore) (version : ℕ) (charges : Charges) (out : List ℕ) (why : Refusal) (concern : Concern)
+      (s : Shore) (version : ℕ) (charges : Charges) (out : List ℕ) (why : Refusal) (concern : Option ℕ)
       → (requested s version charges out).result.said ≡ Refused why concern
       → RefusedSending s out (requested s version charges out) concern
   pub local_open :
-      (s : Shore) (name : List ℕ) (class : ℕ) (out : List ℕ) (why : Refusal) (concern : Concern)
+      (s : Shore) (name : List ℕ) (class : ℕ) (out : List ℕ) (why : Refusal) (concern : Option ℕ)
       → (locally_opened s name class out).result.said ≡ Refused why concern
       → RefusedSending s out (locally_opened s name class out) concern
   pub start :

@@ -1,11 +1,9 @@
 -- What a refusal of the shore leaves: every byte of every buffer, and every channel, but that the listed ones spoil the one
 -- channel concerned.
-use Rattle.std.specs.Prelude.{ℕ, ◌≡◌, true, cond, ◌&&◌, List, ltb}
+use Rattle.std.specs.Prelude.{ℕ, ◌≡◌, true, cond, ◌&&◌, List, ltb, Option, None, Some}
 use Rattle.paper.specs.Refusals.{refusal_number}
 use Rattle.paper.specs.declared.Refusal.{Refusal}
 use Rattle.channel.specs.declared.Stage.TheVariants.{Spoiled}
-use Rattle.channel.specs.declared.Concern.{Concern}
-use Rattle.channel.specs.declared.Concern.TheVariants.{NoChannel, Channel}
 use Rattle.channel.specs.Channel.{restaged}
 use Rattle.table.specs.declared.Table.{Table}
 use Rattle.table.specs.Table.{number_place, record_at, with_record}
@@ -18,12 +16,12 @@ use Rattle.shore_demands.specs.Rows.{is_open_at}
 
 -- refusals 8 to 16 of a received PDU or a local close concern the number that it carries; 1 to 7, and every refusal of the
 -- request or a local open, none
-unfoldable pub concerned : Refusal → Event → Concern
-concerned why (Unreadable w) = NoChannel
-concerned why (Asking version charges) = NoChannel
-concerned why (Response version) = NoChannel
-concerned why (Opening name class) = NoChannel
-concerned why (Of n d) = cond (ltb 7 (refusal_number why)) (Channel n) NoChannel
+unfoldable pub concerned : Refusal → Event → Option ℕ
+concerned why (Unreadable w) = None
+concerned why (Asking version charges) = None
+concerned why (Response version) = None
+concerned why (Opening name class) = None
+concerned why (Of n d) = cond (ltb 7 (refusal_number why)) (Some n) None
 
 -- the table: as it was or, where the channel is open and the refusal spoils, with the stage of the one record that holds the
 -- number spoiled
@@ -47,7 +45,7 @@ IsOpen (Of n d) t = is_open_at t n ≡ true
 
 -- a received PDU or a local close that was refused
 pub record RefusedCall
-    (s : Shore) (store reply : List ℕ) (e : Event) (w : Whole) (why : Refusal) (concern : Concern) : Type 0 where
+    (s : Shore) (store reply : List ℕ) (e : Event) (w : Whole) (why : Refusal) (concern : Option ℕ) : Type 0 where
   pub stored : w.store ≡ store
   pub replied : w.reply ≡ reply
   pub none_sent : w.result.sent ≡ 0
@@ -57,8 +55,8 @@ pub record RefusedCall
   pub one_channel : is_of_three why ≡ true → IsOpen e s.table
 
 -- a request or a local open that was refused: "A request refused with 1 or 5 was not sent"
-pub record RefusedSending (s : Shore) (out : List ℕ) (w : Sends) (concern : Concern) : Type 0 where
+pub record RefusedSending (s : Shore) (out : List ℕ) (w : Sends) (concern : Option ℕ) : Type 0 where
   pub kept : w.result.shore ≡ s
   pub unwritten : w.out ≡ out
   pub none_sent : w.result.sent ≡ 0
-  pub concerns : concern ≡ NoChannel
+  pub concerns : concern ≡ None

@@ -5,7 +5,6 @@ use Rattle.lists.specs.Bytes.{laid}
 use Rattle.reading.specs.Reading.{read_pdu}
 use Rattle.reading.specs.declared.Charges.{Charges}
 use Rattle.shore.specs.declared.Shore.{Shore}
-use Rattle.shore.specs.declared.Heard.{Heard}
 use Rattle.shore.specs.Saying.{concern_said}
 use Rattle.shore.specs.Events.{Event}
 use Rattle.shore.specs.Asking.{heard_in, closing_of}
@@ -70,15 +69,7 @@ dvc_shore_started state store = begins SHORE (started store).shore.table state s
 
 -- ---- the same, as the code has it. Nobody need believe what follows: proofs/Calls shows that it is so.
 
--- what the host asks: what a PDU asks, or a close of the number
-unfoldable pub asked_by : Bool → List ℕ → ℕ → Heard
-asked_by heard pdu n = cond heard (heard_in pdu (read_pdu false pdu)) (closing_of n)
-
--- refusal 1: store or reply is not of its size, the bytes are no state of the shore, or the table is unsound
-unfoldable pub bad_face : List ℕ → ℕ → ℕ → Bool
-bad_face state storeSize replySize = not (eqb storeSize STORE) || (ltb replySize REPLY_MIN || not (is_good SHORE true state))
-
--- and where a PDU is written
+-- refusal 1 where a PDU is written: its buffer in place of store and reply
 unfoldable pub bad_out_face : List ℕ → ℕ → Bool
 bad_out_face state size = ltb size PDU_MAX || not (is_good SHORE true state)
 

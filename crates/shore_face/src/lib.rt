@@ -6,7 +6,6 @@
 
 ghost use Rattle.std.specs.Prelude.{◌≡◌, true, length};
 ghost use Rattle.paper.specs.Sizes.{PARTS, STORE};
-ghost use Rattle.channel.specs.declared.Concern.TheVariants.{NoChannel};
 ghost use Rattle.shore.specs.declared.Said.TheVariants.{Refused};
 ghost use Rattle.shore.specs.Numbers.{least_number};
 ghost use Rattle.shore.specs.Asking.{told, event_asked};
@@ -15,39 +14,15 @@ ghost use Rattle.saved.specs.Saved.{STATE, SHORE, table_in, is_good};
 ghost use Rattle.packing.specs.Packing.{packed_said};
 ghost use Rattle.client_face.specs.Face.{no_state};
 ghost use Rattle.shore_face.specs.Face.{shore_in, dvc_shore_received, dvc_shore_closed, dvc_shore_requested, dvc_shore_opened, dvc_shore_started};
-ghost use Rattle.shore_face.specs.Face.{asked_by, bad_face, bad_out_face, Gives, faces};
+ghost use Rattle.shore_face.specs.Face.{bad_out_face, Gives, faces};
 
-use channel::{Change, Concern};
-use client::Begun;
+use channel::Change;
+use client::Asked;
 use paper::{PARTS, PDU_MAX, Refusal};
 use reading::Charges;
-use shore::{Heard, Matter, Said};
-use writing::Written;
+use shore::{Matter, Said};
 
-// What the host asks: what a PDU asks, or a close of the number.
-fn asked(heard: bool, pdu: &[u8], number: u32) -> Heard
-    ensures { result ≡ asked_by heard pdu.now number }
-{
-    if heard {
-        return shore::hear(pdu);
-    }
-    shore::closing(number)
-}
-
-// Refusal 1: the store or the reply buffer is not of its size, the bytes are no state of this end, or the table is unsound.
-fn bad(state: &[u8], store: usize, reply: usize) -> bool
-    ensures { result ≡ bad_face state.now store reply }
-{
-    if store != paper::STORE {
-        return true;
-    }
-    if reply < paper::REPLY_MIN {
-        return true;
-    }
-    !saved::good(state, saved::SHORE, true)
-}
-
-// The same where a PDU is written: its buffer in place of the two.
+// Refusal 1 where a PDU is written: its buffer in place of store and reply.
 fn bad_out(state: &[u8], room: usize) -> bool
     ensures { result ≡ bad_out_face state.now room }
 {
@@ -59,9 +34,9 @@ fn bad_out(state: &[u8], room: usize) -> bool
 
 // A refusal that concerns no channel.
 fn unsent(why: Refusal) -> u64
-    ensures { result ≡ packed_said (Refused why NoChannel) PARTS 0 }
+    ensures { result ≡ packed_said (Refused why None) PARTS 0 }
 {
-    let concern = Concern::NoChannel;
+    let concern = None;
     packing::pack_said(Said::Refused { why, concern }, 0, PARTS, 0)
 }
 
@@ -110,33 +85,34 @@ fn taken(
     packing::pack_said(said, number, k, sent)
 }
 
-// A call that is lent the store and the reply: refusal 1, and behind it what is asked.
+// A call that is lent the store and the reply: refusal 1, and behind it what is asked, which each end does in its own way.
 fn call(
     state: &mut [u8],
     store: &mut [u8],
-    heard: bool,
+    asked: Asked<Matter>,
     pdu: &[u8],
-    number: u32,
     reply: &mut [u8],
 ) -> u64
     ensures value { result ≡ (faces state.old store.old
-        (event_asked (asked_by heard pdu.now number) pdu.now) reply.old).answer }
+        (event_asked asked pdu.now) reply.old).answer }
     ensures state_after { state.new ≡ (faces state.old store.old
-        (event_asked (asked_by heard pdu.now number) pdu.now) reply.old).state }
+        (event_asked asked pdu.now) reply.old).state }
     ensures store_after { store.new ≡ (faces state.old store.old
-        (event_asked (asked_by heard pdu.now number) pdu.now) reply.old).store }
+        (event_asked asked pdu.now) reply.old).store }
     ensures reply_after { reply.new ≡ (faces state.old store.old
-        (event_asked (asked_by heard pdu.now number) pdu.now) reply.old).reply }
+        (event_asked asked pdu.now) reply.old).reply }
 {
-    if bad(state, store.len(), reply.len()) {
+    if client_face::bad(saved::SHORE, true, state, store.len(), reply.len()) {
         return refused();
     }
-    let asked = asked(heard, pdu, number);
-    let matter = asked.matter;
-    let block = asked.block;
-    let at = lists::lesser(block.at, pdu.len());
-    let end = at + lists::lesser(block.len, pdu.len() - at);
-    taken(state, store, asked.number, matter, &pdu[at..end], reply)
+    taken(
+        state,
+        store,
+        asked.number,
+        asked.matter,
+        asked.block.of(pdu),
+        reply,
+    )
 }
 
 // Zeroes the store and makes an empty table of the state: 0, or 1 where one of them is not of its size, and then nothing is
@@ -152,11 +128,11 @@ pub extern "C" fn dvc_shore_start(state: &mut [u8], store: &mut [u8]) -> u32
     }
     let begun = shore::start(store).begun;
     match begun {
-        Begun::Done => {
-            saved::begin(state, 83);
+        Ok(()) => {
+            saved::begin(state, saved::SHORE as u8);
             0
         }
-        Begun::Refused(_) => 1,
+        Err(_) => 1,
     }
 }
 
@@ -173,7 +149,7 @@ pub extern "C" fn dvc_shore_receive(
     ensures store_after { store.new ≡ (dvc_shore_received state.old store.old pdu.now reply.old).store }
     ensures reply_after { reply.new ≡ (dvc_shore_received state.old store.old pdu.now reply.old).reply }
 {
-    call(state, store, true, pdu, 0, reply)
+    call(state, store, shore::hear(pdu), pdu, reply)
 }
 
 // The host closes a channel. The reply is a Close.
@@ -189,7 +165,7 @@ pub extern "C" fn dvc_shore_local_close(
     ensures store_after { store.new ≡ (dvc_shore_closed state.old store.old number reply.old).store }
     ensures reply_after { reply.new ≡ (dvc_shore_closed state.old store.old number reply.old).reply }
 {
-    call(state, store, false, b"", number, reply)
+    call(state, store, shore::closing(number), b"", reply)
 }
 
 // The Capabilities request, once, of the host's version and charges. It goes to the buffer of a written PDU.
@@ -223,8 +199,8 @@ pub extern "C" fn dvc_shore_request(
         class3: charge3,
     };
     match writing::write_capabilities_request(out, version, charges) {
-        Written::Refused(why) => unsent(why),
-        Written::Length(sent) => {
+        Err(why) => unsent(why),
+        Ok(sent) => {
             saved::ask(state, version);
             packing::pack_said(Said::Asked { version }, 0, PARTS, sent)
         }
@@ -236,15 +212,12 @@ fn least_number(state: &[u8]) -> u32
     requires { length state.now ≡ STATE }
     ensures { result ≡ least_number (table_in state.now) }
 {
-    let mut number = 1;
-    while number <= PARTS as u32 {
-        let row = saved::find(state, number).row;
-        if !row.taken {
+    for number in 1..PARTS as u32 + 1 {
+        if !saved::find(state, number).row.taken {
             return number;
         }
-        number += 1;
     }
-    number
+    PARTS as u32 + 1
 }
 
 // The host opens a channel by its listener's name and a class. The Create request goes to the buffer of a written PDU.
@@ -268,8 +241,8 @@ pub extern "C" fn dvc_shore_open(state: &mut [u8], name: &[u8], class: u8, out: 
     }
     let sends = channel::class_at(head.level, class);
     match writing::write_create_request(out, number, sends, name) {
-        Written::Refused(why) => unsent(why),
-        Written::Length(sent) => {
+        Err(why) => unsent(why),
+        Ok(sent) => {
             let row = table::blank();
             let change = Change::Becomes(shore::awaited(head.level, number, class));
             saved::put(state, head.ready, head.level, k, row, change);

@@ -1,5 +1,6 @@
 -- The totals and a channel's count, by what the tests before them say.
 -- Assumes nothing.
+use Rattle.std.specs.Prelude.{None, Some}
 use mathlib.Core.Path.{◌≡◌, refl, sym, ap, ◌∙◌}
 use mathlib.Core.Bool.{Bool, true, false, not, ◌&&◌, ◌||◌}
 use mathlib.Core.Logic.{inl, inr}
@@ -12,7 +13,6 @@ use Rattle.paper.specs.Sizes.{PARTS, STORE}
 use Rattle.paper.specs.declared.Refusal.TheVariants.{BadCall, NotOpen}
 use Rattle.lists.proofs.Cases.{both, and_false}
 use Rattle.channel.specs.declared.Record.{Record}
-use Rattle.channel.specs.declared.Concern.TheVariants.{NoChannel, Channel}
 use Rattle.channel.specs.declared.Answer.TheVariants.{Refused}
 use Rattle.channel.specs.Answers.{concern_of}
 use Rattle.table.specs.declared.Totals.{Totals}
@@ -27,9 +27,9 @@ use Rattle.packing.proofs.Own.{own}
 use Rattle.client_face.specs.Face.{no_state}
 use Rattle.status_face.specs.Status.{dvc_totals, count_in, dvc_count}
 
-no_state_law : packed_for 0 (Refused BadCall NoChannel) PARTS 0 ≡ no_state
+no_state_law : packed_for 0 (Refused BadCall None) PARTS 0 ≡ no_state
 unfolding no_state concern_of
-no_state_law = own 0 (Refused BadCall NoChannel) (inl refl) PARTS 0
+no_state_law = own 0 (Refused BadCall None) (inl refl) PARTS 0
 
 -- ---- the totals
 
@@ -46,7 +46,7 @@ unfolding head_in
 read_totals l h g e = ap (λ (x : Head). x.totals) e ∙ rw (headed_size l g) refl
 
 module _ (l : List ℕ) (r : ℕ) where
-  pub totals_refused : is_headed l ≡ false → r ≡ packed_for 0 (Refused BadCall NoChannel) PARTS 0 → r ≡ dvc_totals l
+  pub totals_refused : is_headed l ≡ false → r ≡ packed_for 0 (Refused BadCall None) PARTS 0 → r ≡ dvc_totals l
   unfolding dvc_totals
   totals_refused g e = rw g (e ∙ no_state_law)
 
@@ -89,7 +89,7 @@ fair_size l g = go (is_good CLIENT false l) refl g
     go false e h = saved_size SHORE l (good_saved SHORE true l h)
 
 module _ (l : List ℕ) (n r : ℕ) where
-  pub count_refused : is_fair l ≡ false → r ≡ packed_for 0 (Refused BadCall NoChannel) PARTS 0 → r ≡ dvc_count l n
+  pub count_refused : is_fair l ≡ false → r ≡ packed_for 0 (Refused BadCall None) PARTS 0 → r ≡ dvc_count l n
   unfolding dvc_count
   count_refused g e = rw g (e ∙ no_state_law)
 
@@ -99,9 +99,9 @@ module _ (l : List ℕ) (n r : ℕ) where
     found_row = ap (λ (x : Found). x.row) e ∙ rw (eq-eqb (length l) STATE (fair_size l g)) refl
 
     -- a number without an open channel
-    pub count_shut : is_open f.row ≡ false → r ≡ packed_for n (Refused NotOpen (Channel n)) PARTS 0 → r ≡ dvc_count l n
+    pub count_shut : is_open f.row ≡ false → r ≡ packed_for n (Refused NotOpen (Some n)) PARTS 0 → r ≡ dvc_count l n
     unfolding dvc_count count_in concern_of
-    count_shut h p = rw (g, sym (ap is_open found_row) ∙ h) (p ∙ own n (Refused NotOpen (Channel n)) (inr refl) PARTS 0)
+    count_shut h p = rw (g, sym (ap is_open found_row) ∙ h) (p ∙ own n (Refused NotOpen (Some n)) (inr refl) PARTS 0)
 
     pub count_given : is_open f.row ≡ true → r ≡ packed COUNTED f.row.count 0 0 0 → r ≡ dvc_count l n
     unfolding dvc_count count_in

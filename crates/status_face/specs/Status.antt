@@ -1,8 +1,7 @@
 -- What a host in C asks of a state of either end: the totals, and a channel's count of messages.
-use Rattle.std.specs.Prelude.{ℕ, true, false, cond, ◌||◌, List}
+use Rattle.std.specs.Prelude.{ℕ, true, false, cond, ◌||◌, List, Some}
 use Rattle.paper.specs.Sizes.{PARTS}
 use Rattle.paper.specs.declared.Refusal.TheVariants.{NotOpen}
-use Rattle.channel.specs.declared.Concern.TheVariants.{Channel}
 use Rattle.channel.specs.declared.Answer.TheVariants.{Refused}
 use Rattle.table.specs.declared.Table.{Table}
 use Rattle.table.specs.Totals.{is_open}
@@ -20,7 +19,7 @@ dvc_totals state = cond (is_headed state) (packed COUNTED (totals_in state).awai
 unfoldable pub count_in : Table → ℕ → ℕ
 count_in t n =
     cond (is_open (record_at t (number_place n t))) (packed COUNTED (record_at t (number_place n t)).count 0 0 0)
-    (packed_answer (Refused NotOpen (Channel n)) PARTS 0)
+    (packed_answer (Refused NotOpen (Some n)) PARTS 0)
 
 unfoldable pub dvc_count : List ℕ → ℕ → ℕ
 dvc_count state n = cond (is_good CLIENT false state || is_good SHORE true state) (count_in (table_in state) n) no_state

@@ -7,11 +7,11 @@ ghost use Rattle.saved.specs.Saved.{CLIENT, SHORE, is_good};
 ghost use Rattle.packing.specs.Packing.{packed_for};
 ghost use Rattle.status_face.specs.Status.{dvc_totals, dvc_count};
 
-use channel::{Answer, Concern};
+use channel::Answer;
 use paper::{PARTS, Refusal};
 
 // A refusal that concerns the channel, or none.
-fn refuse(why: Refusal, concern: Concern, number: u32) -> u64
+fn refuse(why: Refusal, concern: Option<u32>, number: u32) -> u64
     ensures { result ≡ packed_for number (Answer.Refused why concern) PARTS 0 }
 {
     packing::pack_answer(Answer::Refused { why, concern }, number, PARTS, 0)
@@ -33,7 +33,7 @@ pub extern "C" fn dvc_totals(state: &[u8]) -> u64
     ensures { result ≡ dvc_totals state.now }
 {
     if !saved::headed(state) {
-        return refuse(Refusal::BadCall, Concern::NoChannel, 0);
+        return refuse(Refusal::BadCall, None, 0);
     }
     let totals = saved::read_head(state).totals;
     packing::pack_count(totals.awaited, totals.channels as u64)
@@ -45,14 +45,14 @@ pub extern "C" fn dvc_count(state: &[u8], number: u32) -> u64
     ensures { result ≡ dvc_count state.now number }
 {
     if !good(state) {
-        return refuse(Refusal::BadCall, Concern::NoChannel, 0);
+        return refuse(Refusal::BadCall, None, 0);
     }
     let row = saved::find(state, number).row;
     if !row.taken {
-        return refuse(Refusal::NotOpen, Concern::Channel(number), number);
+        return refuse(Refusal::NotOpen, Some(number), number);
     }
     if row.awaited {
-        return refuse(Refusal::NotOpen, Concern::Channel(number), number);
+        return refuse(Refusal::NotOpen, Some(number), number);
     }
     packing::pack_count(row.count, 0)
 }

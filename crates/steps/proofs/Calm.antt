@@ -1,6 +1,7 @@
 -- Every state that calls reach from Start is calm: sixteen records, a store of its size, a sound table, and free records and
 -- their parts as Start made them. So refusal 1 for an unsound table never comes up there.
 -- Assumes nothing.
+use Rattle.std.specs.Prelude.{Option, None, Some}
 use mathlib.Core.Path.{◌≡◌, refl}
 use mathlib.Core.Logic.{◌⊎◌, inl, inr, ⊎_elim}
 use mathlib.Core.Bool.{Bool, true, false}
@@ -17,8 +18,6 @@ use Rattle.store.proofs.Parts.{zeros_part}
 use Rattle.reading.specs.Reading.{read_pdu}
 use Rattle.reading.specs.Said.{bytes_at}
 use Rattle.reading.specs.Garbled.{carries}
-use Rattle.reading.specs.declared.Carried.{Carried}
-use Rattle.reading.specs.declared.Carried.TheVariants.{NoNumber, Number}
 use Rattle.reading.specs.declared.Pdu.{Pdu}
 use Rattle.reading.specs.declared.Pdu.TheVariants.{CreateRequest, CreateResponse, DataFirst, Data, Close, CapsRequest, CapsResponse, Refused}
 use Rattle.reading.proofs.Placed.{Placed, placed}
@@ -98,10 +97,10 @@ pub fine_create : (list name : List ℕ) (pri : ℕ) → pri ≤ 3 → FineAct (
 unfolding create_act
 fine_create list name pri h = choice FineAct (good_list list) (λ e. h) (λ e. tt)
 
-fine_unread : (why : Refusal) (carried : Carried) → FineEvent (unread why carried)
+fine_unread : (why : Refusal) (carried : Option ℕ) → FineEvent (unread why carried)
 unfolding unread
-fine_unread why NoNumber = tt
-fine_unread why (Number n) = tt
+fine_unread why None = tt
+fine_unread why (Some n) = tt
 
 fine_read : (list pdu : List ℕ) (p : Pdu) → Placed pdu p → FineEvent (event_of list pdu p)
 unfolding event_of

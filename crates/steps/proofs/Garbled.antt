@@ -1,5 +1,6 @@
 -- Garbled blocks: which PDUs they are, whose events, and what they do.
 -- Assumes nothing.
+use Rattle.std.specs.Prelude.{None, Option, Some}
 use mathlib.Core.Path.{◌≡◌, refl, sym, ap, ◌∙◌}
 use mathlib.Core.Bool.{Bool, true, false}
 use mathlib.Core.List.{List}
@@ -11,15 +12,12 @@ use Rattle.lists.proofs.Cases.{choice, true_not_false}
 use Rattle.reading.specs.Reading.{read_pdu}
 use Rattle.reading.specs.Said.{bytes_at}
 use Rattle.reading.specs.Garbled.{carries}
-use Rattle.reading.specs.declared.Carried.{Carried}
-use Rattle.reading.specs.declared.Carried.TheVariants.{NoNumber, Number}
 use Rattle.reading.specs.declared.Pdu.{Pdu}
 use Rattle.reading.specs.declared.Pdu.TheVariants.{CreateRequest, CreateResponse, DataFirst, Data, Close, CapsRequest, CapsResponse, Refused as NotRead}
 use Rattle.reading.proofs.Garbled.{BlockOf, carried_is_read}
 use Rattle.listeners.specs.Listeners.{good_list}
 use Rattle.channel.specs.declared.Stage.TheVariants.{Spoiled}
 use Rattle.channel.specs.declared.Record.{Record}
-use Rattle.channel.specs.declared.Concern.TheVariants.{NoChannel}
 use Rattle.channel.specs.declared.Answer.TheVariants.{Refused}
 use Rattle.channel.specs.Channel.{Act, BadCreate, Create, Bring, Garbled, Closing, LocalClose, View, Shut, Open, Room, restaged, act}
 use Rattle.deciding.specs.Deciding.{too_soon}
@@ -54,13 +52,13 @@ unfolding create_act
 create_plain n list name pri = choice (λ (a : Act). asks_garbled a ≡ false) (good_list list) (λ e. refl) (λ e. refl)
 
 module _ (list pdu : List ℕ) (n : ℕ) (why : Refusal) where
-  unread_only : (x : Refusal) (carried : Carried) → unread x carried ≡ Of n (Garbled why) → (x ≡ why) × (carried ≡ Number n)
+  unread_only : (x : Refusal) (carried : Option ℕ) → unread x carried ≡ Of n (Garbled why) → (x ≡ why) × (carried ≡ Some n)
   unfolding unread
-  unread_only x NoNumber h = not_garbled (Unreadable x) n why refl h
-  unread_only x (Number m) h = (cc, ap Number cc)
+  unread_only x None h = not_garbled (Unreadable x) n why refl h
+  unread_only x (Some m) h = (cc, ap Some cc)
 
   garbled_only :
-      (p : Pdu) → event_of list pdu p ≡ Of n (Garbled why) → (p ≡ NotRead why) × (carries pdu ≡ Number n)
+      (p : Pdu) → event_of list pdu p ≡ Of n (Garbled why) → (p ≡ NotRead why) × (carries pdu ≡ Some n)
   unfolding event_of
   garbled_only (CreateRequest m class name) h = not_garbled _ n why (create_plain m list (bytes_at pdu name) class) h
   garbled_only (CreateResponse m status) h = not_garbled _ n why refl h
@@ -72,22 +70,22 @@ module _ (list pdu : List ℕ) (n : ℕ) (why : Refusal) where
   garbled_only (NotRead x) h = let u = unread_only x (carries pdu) h in (ap NotRead u.0, u.1)
 
   -- an event is garbled only where reading refuses the PDU, with that refusal, and its number stands in it whole
-  pub only_garbled : event_of list pdu (read_pdu true pdu) ≡ Of n (Garbled why) → (read_pdu true pdu ≡ NotRead why) × (carries pdu ≡ Number n)
+  pub only_garbled : event_of list pdu (read_pdu true pdu) ≡ Of n (Garbled why) → (read_pdu true pdu ≡ NotRead why) × (carries pdu ≡ Some n)
   only_garbled h = garbled_only (read_pdu true pdu) h
 
   -- and always there
-  pub every_garbled : read_pdu true pdu ≡ NotRead why → carries pdu ≡ Number n → event_of list pdu (read_pdu true pdu) ≡ Of n (Garbled why)
+  pub every_garbled : read_pdu true pdu ≡ NotRead why → carries pdu ≡ Some n → event_of list pdu (read_pdu true pdu) ≡ Of n (Garbled why)
   unfolding event_of unread
   every_garbled r c = rw (r, c)
 
 -- ---- whose events: "any PDU of these commands with its number whole is an event of that channel"
 
-unread_own : (n : ℕ) (why : Refusal) (carried : Carried) → carried ≡ Number n → is_of n (unread why carried) ≡ true
+unread_own : (n : ℕ) (why : Refusal) (carried : Option ℕ) → carried ≡ Some n → is_of n (unread why carried) ≡ true
 unfolding unread
-unread_own n why NoNumber h = let z : ◌≡◌ {A = ℕ} 0 1 = cc in absurd (omega arith)
-unread_own n why (Number m) h = eq-eqb m n cc
+unread_own n why None h = let z : ◌≡◌ {A = ℕ} 0 1 = cc in absurd (omega arith)
+unread_own n why (Some m) h = eq-eqb m n cc
 
-own_block : (list pdu : List ℕ) (n : ℕ) → carries pdu ≡ Number n → (p : Pdu) → BlockOf n p → is_of n (event_of list pdu p) ≡ true
+own_block : (list pdu : List ℕ) (n : ℕ) → carries pdu ≡ Some n → (p : Pdu) → BlockOf n p → is_of n (event_of list pdu p) ≡ true
 unfolding event_of
 own_block list pdu n h (CreateRequest m class name) b = absurd b
 own_block list pdu n h (CreateResponse m status) b = absurd b
@@ -98,13 +96,13 @@ own_block list pdu n h (CapsRequest version charges) b = absurd b
 own_block list pdu n h (CapsResponse version) b = absurd b
 own_block list pdu n h (NotRead why) b = unread_own n why (carries pdu) h
 
-pub whole_is_own : (list pdu : List ℕ) (n : ℕ) → carries pdu ≡ Number n → is_of n (event_of list pdu (read_pdu true pdu)) ≡ true
+pub whole_is_own : (list pdu : List ℕ) (n : ℕ) → carries pdu ≡ Some n → is_of n (event_of list pdu (read_pdu true pdu)) ≡ true
 whole_is_own list pdu n h = own_block list pdu n h (read_pdu true pdu) (carried_is_read true pdu n h)
 
 -- ---- what they do
 
 module _ (n : ℕ) (why : Refusal) where
-  rule_answer : (level : ℕ) (room : Room) (v : View) → (act level n room v (Garbled why)).answer ≡ Refused why NoChannel
+  rule_answer : (level : ℕ) (room : Room) (v : View) → (act level n room v (Garbled why)).answer ≡ Refused why None
   unfolding act
   rule_answer level room Shut = refl
   rule_answer level room (Open r b) = refl
@@ -123,7 +121,7 @@ module _ (n : ℕ) (why : Refusal) where
   garbled_unopened st g v = garbled_shut st n why g.ready v
 
   -- ready, and open: it is spoiled, and the answer is the refusal of reading
-  pub garbled_answer : (st : State) → Steady st → (stepped st (Of n (Garbled why))).answer ≡ Refused why NoChannel
+  pub garbled_answer : (st : State) → Steady st → (stepped st (Of n (Garbled why))).answer ≡ Refused why None
   garbled_answer st g = step_answer st g n (Garbled why) ∙ rule_answer st.table.level (room_in st) (view n st)
 
   seen_open : (st : State) (r : Record) (b : List ℕ) → view n st ≡ Open r b → (act st.table.level n (room_in st) (view n st) (Garbled why)).view ≡ Open (restaged r Spoiled) b

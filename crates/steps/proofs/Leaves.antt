@@ -2,6 +2,7 @@
 -- garbled block, turn the stage of the one record that holds the number to spoiled. The rules of one channel say so (`act_quiet`); the
 -- step puts it back.
 -- Assumes nothing.
+use Rattle.std.specs.Prelude.{Option, None, Some}
 use mathlib.Core.Path.{◌≡◌, refl, sym, ap, ◌∙◌}
 use mathlib.Core.Bool.{Bool, true, false}
 use mathlib.Core.Logic.{◌≢◌}
@@ -20,8 +21,6 @@ use Rattle.lists.proofs.Cases.{choice, and_false, true_not_false}
 use Rattle.reading.specs.Reading.{read_pdu}
 use Rattle.reading.specs.Said.{bytes_at}
 use Rattle.reading.specs.Garbled.{carries}
-use Rattle.reading.specs.declared.Carried.{Carried}
-use Rattle.reading.specs.declared.Carried.TheVariants.{NoNumber, Number}
 use Rattle.listeners.specs.Listeners.{good_list}
 use Rattle.reading.specs.declared.Pdu.{Pdu}
 use Rattle.reading.specs.declared.Pdu.TheVariants.{CreateRequest, CreateResponse, DataFirst, Data, Close, CapsRequest, CapsResponse, Refused as NotRead}
@@ -31,8 +30,6 @@ use Rattle.channel.specs.declared.Stage.TheVariants.{Idle, Joining, Spoiled}
 use Rattle.channel.specs.declared.Record.{Record}
 use Rattle.channel.specs.declared.Offer.{Offer}
 use Rattle.channel.specs.declared.Offer.TheVariants.{First, More}
-use Rattle.channel.specs.declared.Concern.{Concern}
-use Rattle.channel.specs.declared.Concern.TheVariants.{NoChannel, Channel}
 use Rattle.channel.specs.declared.Answer.TheVariants.{Refused}
 use Rattle.channel.specs.declared.Took.{Took}
 use Rattle.channel.specs.declared.Took.TheVariants.{Bars, Spoils, Holds, Finishes}
@@ -125,14 +122,14 @@ pub data Leaves (a : Act) (why : Refusal) : View → View → Type 0 where
   spoilt : {r : Record} {part : List ℕ} → spoils why a ≡ true → Leaves a why (Open r part) (Open (restaged r Spoiled) part)
 
 -- nothing is sent, and the refusal concerns whom it should
-pub record Quiet (n : ℕ) (a : Act) (v w : View) (reply : List ℕ) (why : Refusal) (concern : Concern) : Type 0 where
+pub record Quiet (n : ℕ) (a : Act) (v w : View) (reply : List ℕ) (why : Refusal) (concern : Option ℕ) : Type 0 where
   pub silent : reply ≡ []
   pub leaves : Leaves a why v w
   pub concerns : concern ≡ concerned why (Of n a)
 
 -- a refusal by what it leaves and whom it concerns
 quiet :
-    (n : ℕ) (a : Act) (why : Refusal) (concern : Concern) {v w : View} (x : Refusal) (c : Concern) → Leaves a x v w
+    (n : ℕ) (a : Act) (why : Refusal) (concern : Option ℕ) {v w : View} (x : Refusal) (c : Option ℕ) → Leaves a x v w
     → c ≡ concerned x (Of n a) → Refused x c ≡ Refused why concern → Quiet n a v w [] why concern
 quiet n a why concern x c l k e =
     let p : x ≡ why = cc in
@@ -140,49 +137,49 @@ quiet n a why concern x c l k e =
     record { silent = refl; leaves = rw (← p) l; concerns = sym q ∙ k ∙ ap (λ (w : Refusal). concerned w (Of n a)) p }
 
 -- by its number it concerns the channel, or none
-channel_concern : (n : ℕ) (a : Act) (x : Refusal) → ltb 7 (refusal_number x) ≡ true → Channel n ≡ concerned x (Of n a)
+channel_concern : (n : ℕ) (a : Act) (x : Refusal) → ltb 7 (refusal_number x) ≡ true → Some n ≡ concerned x (Of n a)
 unfolding concerned
 channel_concern n a x h = rw h
 
-no_concern : (n : ℕ) (a : Act) (x : Refusal) → ltb 7 (refusal_number x) ≡ false → NoChannel ≡ concerned x (Of n a)
+no_concern : (n : ℕ) (a : Act) (x : Refusal) → ltb 7 (refusal_number x) ≡ false → None ≡ concerned x (Of n a)
 unfolding concerned
 no_concern n a x h = rw h
 
 landed_quiet :
-    (n : ℕ) (offer : Offer) (why : Refusal) (concern : Concern) (r : Record) (part bytes : List ℕ) (t : Took) → Right t
+    (n : ℕ) (offer : Offer) (why : Refusal) (concern : Option ℕ) (r : Record) (part bytes : List ℕ) (t : Took) → Right t
     → (landed n r part bytes t).answer ≡ Refused why concern
     → Quiet n (Bring offer bytes) (Open r part) (landed n r part bytes t).view (landed n r part bytes t).reply why concern
 unfolding landed stage_after part_after answer_to restaged spoils
 landed_quiet n offer why concern r part bytes (Bars x) s e =
-    quiet n (Bring offer bytes) why concern x (Channel n) (kept s.0 s.0) (channel_concern n (Bring offer bytes) x s.1) e
+    quiet n (Bring offer bytes) why concern x (Some n) (kept s.0 s.0) (channel_concern n (Bring offer bytes) x s.1) e
 landed_quiet n offer why concern r part bytes (Spoils x) s e =
-    quiet n (Bring offer bytes) why concern x (Channel n) (spoilt s.0) (channel_concern n (Bring offer bytes) x s.1) e
+    quiet n (Bring offer bytes) why concern x (Some n) (spoilt s.0) (channel_concern n (Bring offer bytes) x s.1) e
 landed_quiet n offer why concern r part bytes (Holds wanted at held) s e = let z : ◌≡◌ {A = ℕ} 0 1 = cc in absurd (omega arith)
 landed_quiet n offer why concern r part bytes (Finishes at len) s e = let z : ◌≡◌ {A = ℕ} 0 1 = cc in absurd (omega arith)
 
 -- a garbled block, on an open channel and on one that isn't
 garbled_quiet :
-    (n : ℕ) (x why : Refusal) (concern : Concern) (v w : View) → OfReading x → Leaves (Garbled x) x v w
-    → Refused x NoChannel ≡ Refused why concern → Quiet n (Garbled x) v w [] why concern
-garbled_quiet n x why concern v w r l e = quiet n (Garbled x) why concern x NoChannel l (no_concern n (Garbled x) x r.no_channel) e
+    (n : ℕ) (x why : Refusal) (concern : Option ℕ) (v w : View) → OfReading x → Leaves (Garbled x) x v w
+    → Refused x None ≡ Refused why concern → Quiet n (Garbled x) v w [] why concern
+garbled_quiet n x why concern v w r l e = quiet n (Garbled x) why concern x None l (no_concern n (Garbled x) x r.no_channel) e
 
 opening_answers :
-    (level n pri : ℕ) (room : Room) (why : Refusal) (concern : Concern) → (opening level n pri room).answer ≡ Refused why concern → ⊥
+    (level n pri : ℕ) (room : Room) (why : Refusal) (concern : Option ℕ) → (opening level n pri room).answer ≡ Refused why concern → ⊥
 unfolding opening
 opening_answers level n pri NoRoom why concern e = let z : ◌≡◌ {A = ℕ} 0 1 = cc in omega arith
 opening_answers level n pri (Spare p) why concern e = let z : ◌≡◌ {A = ℕ} 0 1 = cc in omega arith
 
 pub act_quiet :
-    (level n : ℕ) (room : Room) (v : View) (a : Act) (why : Refusal) (concern : Concern) → MildAct a
+    (level n : ℕ) (room : Room) (v : View) (a : Act) (why : Refusal) (concern : Option ℕ) → MildAct a
     → (act level n room v a).answer ≡ Refused why concern
     → Quiet n a v (act level n room v a).view (act level n room v a).reply why concern
 unfolding act spoils is_of_three concerned
-act_quiet level n room Shut BadCreate why concern m e = quiet n BadCreate why concern BadList NoChannel (kept refl refl) refl e
-act_quiet level n room (Open r part) BadCreate why concern m e = quiet n BadCreate why concern BadList NoChannel (kept refl refl) refl e
+act_quiet level n room Shut BadCreate why concern m e = quiet n BadCreate why concern BadList None (kept refl refl) refl e
+act_quiet level n room (Open r part) BadCreate why concern m e = quiet n BadCreate why concern BadList None (kept refl refl) refl e
 act_quiet level n room Shut (Create true pri) why concern m e = absurd (opening_answers level n pri room why concern e)
 act_quiet level n room Shut (Create false pri) why concern m e = let z : ◌≡◌ {A = ℕ} 0 1 = cc in absurd (omega arith)
-act_quiet level n room (Open r part) (Create listed pri) why concern m e = quiet n (Create listed pri) why concern AlreadyOpen (Channel n) (kept refl refl) refl e
-act_quiet level n room Shut (Bring offer bytes) why concern m e = quiet n (Bring offer bytes) why concern NotOpen (Channel n) (kept refl refl) refl e
+act_quiet level n room (Open r part) (Create listed pri) why concern m e = quiet n (Create listed pri) why concern AlreadyOpen (Some n) (kept refl refl) refl e
+act_quiet level n room Shut (Bring offer bytes) why concern m e = quiet n (Bring offer bytes) why concern NotOpen (Some n) (kept refl refl) refl e
 act_quiet level n room (Open r part) (Bring offer bytes) why concern m e =
     landed_quiet n offer why concern r part bytes (took r.stage offer (length bytes)) (took_right r.stage offer (length bytes)) e
 act_quiet level n room Shut (Garbled x) why concern m e =
@@ -193,12 +190,12 @@ act_quiet level n room (Open r part) (Garbled x) why concern m e =
     garbled_quiet n x why concern (Open r part) (Open (restaged r Spoiled) part) g (spoilt g.one) e
 act_quiet level n room Shut Closing why concern m e = let z : ◌≡◌ {A = ℕ} 0 1 = cc in absurd (omega arith)
 act_quiet level n room (Open r part) Closing why concern m e = let z : ◌≡◌ {A = ℕ} 0 1 = cc in absurd (omega arith)
-act_quiet level n room Shut LocalClose why concern m e = quiet n LocalClose why concern NotOpen (Channel n) (kept refl refl) refl e
+act_quiet level n room Shut LocalClose why concern m e = quiet n LocalClose why concern NotOpen (Some n) (kept refl refl) refl e
 act_quiet level n room (Open r part) LocalClose why concern m e = let z : ◌≡◌ {A = ℕ} 0 1 = cc in absurd (omega arith)
 
 -- ---- what a refused step leaves
 
-record Refusing (st : State) (e : Event) (s : Stepped) (why : Refusal) (concern : Concern) : Type 0 where
+record Refusing (st : State) (e : Event) (s : Stepped) (why : Refusal) (concern : Option ℕ) : Type 0 where
   pub silent : s.reply ≡ []
   pub concerns : concern ≡ concerned why e
   pub left : s.state ≡ state_of (left_by why e st.table) st.store
@@ -230,11 +227,11 @@ module _ (n : ℕ) (a : Act) (st : State) (g : Steady st) (why : Refusal) where
 
 -- a refusal that concerns no channel
 refused_here :
-    (st : State) (e : Event) (x why : Refusal) (concern : Concern) → is_of_three x ≡ false → NoChannel ≡ concerned x e
-    → left_by x e st.table ≡ st.table → Refused x NoChannel ≡ Refused why concern → Refusing st e (refused st x) why concern
+    (st : State) (e : Event) (x why : Refusal) (concern : Option ℕ) → is_of_three x ≡ false → None ≡ concerned x e
+    → left_by x e st.table ≡ st.table → Refused x None ≡ Refused why concern → Refusing st e (refused st x) why concern
 refused_here st e x why concern s c l h =
     let p : x ≡ why = cc in
-    let q : NoChannel ≡ concern = cc in
+    let q : None ≡ concern = cc in
     rw (← p) (record { silent = refl; concerns = sym q ∙ c; left = ap (λ (t : Table). state_of t st.store) (sym l); one_channel = λ t. absurd (true_not_false (sym t ∙ s)) })
 
 -- ... in time or too early
@@ -269,7 +266,7 @@ Mild (Unreadable why) = is_of_three why ≡ false
 Mild (Capabilities version) = Unit {0}
 Mild (Of n a) = MildAct a
 
-module _ (st : State) (rows : length st.table.records ≡ PARTS) (bytes : length st.store ≡ STORE) (sound : sound_table st.table ≡ true) (why : Refusal) (concern : Concern) where
+module _ (st : State) (rows : length st.table.records ≡ PARTS) (bytes : length st.store ≡ STORE) (sound : sound_table st.table ≡ true) (why : Refusal) (concern : Option ℕ) where
   of_refusing :
       (n : ℕ) (a : Act) → MildAct a → (t : Bool) → st.table.ready ≡ t → (stepped st (Of n a)).answer ≡ Refused why concern
       → Refusing st (Of n a) (stepped st (Of n a)) why concern
@@ -306,7 +303,7 @@ module _ (st : State) (rows : length st.table.records ≡ PARTS) (bytes : length
 -- ---- the call
 
 whole_refusing :
-    (t : Table) (store reply : List ℕ) (e : Event) (s : Stepped) (why : Refusal) (concern : Concern)
+    (t : Table) (store reply : List ℕ) (e : Event) (s : Stepped) (why : Refusal) (concern : Option ℕ)
     → Refusing (state_of t store) e s why concern → RefusedCall t store reply e (whole_of reply s) why concern
 unfolding whole_of laid
 whole_refusing t store reply e s why concern r =
@@ -339,7 +336,7 @@ size_left (Unreadable w) t = refl
 size_left (Capabilities version) t = refl
 size_left (Of n a) t = rw (size_spoils a)
 
-size_concern : (e : Event) → NoChannel ≡ concerned BadCall e
+size_concern : (e : Event) → None ≡ concerned BadCall e
 unfolding concerned
 size_concern (Unreadable w) = refl
 size_concern (Capabilities version) = refl
@@ -350,7 +347,7 @@ unfolding is_of_three
 size_kept = refl
 
 guarded_refusing :
-    (t : Table) (store reply : List ℕ) (e : Event) → length t.records ≡ PARTS → Mild e → (why : Refusal) (concern : Concern)
+    (t : Table) (store reply : List ℕ) (e : Event) → length t.records ≡ PARTS → Mild e → (why : Refusal) (concern : Option ℕ)
     → (guarded t store reply (stepped (state_of t store) e)).result.answer ≡ Refused why concern
     → RefusedCall t store reply e (guarded t store reply (stepped (state_of t store) e)) why concern
 guarded_refusing t store reply e rows mild why concern h = go (bad_call t (length store) (length reply)) refl
@@ -366,10 +363,10 @@ guarded_refusing t store reply e rows mild why concern h = go (bad_call t (lengt
         let p = proper t (length store) (length reply) b in
         rw r (whole_refusing t store reply e (stepped (state_of t store) e) why concern (step_refusing (state_of t store) rows p.store_size p.sound why concern e mild (whole_answer reply (stepped (state_of t store) e) r ∙ h)))
 
-mild_unread : (why : Refusal) (carried : Carried) → ReadingRefusal why → Mild (unread why carried)
+mild_unread : (why : Refusal) (carried : Option ℕ) → ReadingRefusal why → Mild (unread why carried)
 unfolding unread
-mild_unread why NoNumber h = (of_reading why h).not_three
-mild_unread why (Number n) h = h
+mild_unread why None h = (of_reading why h).not_three
+mild_unread why (Some n) h = h
 
 mild_create : (list name : List ℕ) (pri : ℕ) → MildAct (create_act list name pri)
 unfolding create_act
@@ -392,14 +389,14 @@ mild_pdu list pdu = mild_read list pdu (read_pdu true pdu) (placed pdu true)
 -- "A refusal writes nothing to the reply or to the message store and changes no channel, except that three listed refusals mark
 -- the one channel concerned as spoiled", and those of reading do for a garbled block
 pub receive_refused :
-    (t : Table) (store list pdu reply : List ℕ) (why : Refusal) (concern : Concern) → length t.records ≡ PARTS
+    (t : Table) (store list pdu reply : List ℕ) (why : Refusal) (concern : Option ℕ) → length t.records ≡ PARTS
     → (received t store list pdu reply).result.answer ≡ Refused why concern
     → RefusedCall t store reply (event_of list pdu (read_pdu true pdu)) (received t store list pdu reply) why concern
 unfolding received
 receive_refused t store list pdu reply why concern rows e = guarded_refusing t store reply (event_of list pdu (read_pdu true pdu)) rows (mild_pdu list pdu) why concern e
 
 pub local_close_refused :
-    (t : Table) (store : List ℕ) (n : ℕ) (reply : List ℕ) (why : Refusal) (concern : Concern) → length t.records ≡ PARTS
+    (t : Table) (store : List ℕ) (n : ℕ) (reply : List ℕ) (why : Refusal) (concern : Option ℕ) → length t.records ≡ PARTS
     → (locally_closed t store n reply).result.answer ≡ Refused why concern
     → RefusedCall t store reply (Of n LocalClose) (locally_closed t store n reply) why concern
 unfolding locally_closed

@@ -1,5 +1,6 @@
 -- Each refusal number is given exactly when its row of the paper's table holds and no earlier one in the paper's order does.
 -- Assumes nothing.
+use Rattle.std.specs.Prelude.{Option, None, Some, Err, Ok}
 use mathlib.Core.Path.{◌≡◌, refl, sym, ap, ◌∙◌}
 use mathlib.Core.Bool.{Bool, true, false, cond, not}
 use mathlib.Core.List.{List, [], ◌∷◌, ◌++◌}
@@ -14,8 +15,6 @@ use Rattle.paper.specs.declared.Refusal.{Refusal}
 use Rattle.paper.specs.declared.Refusal.TheVariants.{BadCall, BadList, WrongTime, NotOpen, AlreadyOpen, StillJoining, OverLimit, PastLength, IsSpoiled}
 use Rattle.lists.proofs.Cases.{choice, each}
 use Rattle.reading.specs.Garbled.{carries}
-use Rattle.reading.specs.declared.Carried.{Carried}
-use Rattle.reading.specs.declared.Carried.TheVariants.{NoNumber, Number}
 use Rattle.reading.specs.Reading.{read_pdu}
 use Rattle.reading.specs.Said.{bytes_at}
 use Rattle.reading.specs.declared.Extent.{Extent}
@@ -30,8 +29,6 @@ use Rattle.channel.specs.declared.Stage.{Stage}
 use Rattle.channel.specs.declared.Stage.TheVariants.{Idle, Joining, Spoiled}
 use Rattle.channel.specs.declared.Record.{Record}
 use Rattle.channel.specs.declared.Offer.TheVariants.{First, More}
-use Rattle.channel.specs.declared.Concern.{Concern}
-use Rattle.channel.specs.declared.Concern.TheVariants.{NoChannel, Channel}
 use Rattle.channel.specs.declared.Answer.{Answer}
 use Rattle.channel.specs.declared.Answer.TheVariants.{Ready, Opened, Declined, Held, Message, Closed, Ignored, Refused as Refuses}
 use Rattle.paper.specs.Rows.{Verdict, fine, refused_with, Row, row, first_held, comes_to}
@@ -49,7 +46,6 @@ use Rattle.connection.specs.States.{State, state_of, view_at, view, room_in}
 use Rattle.store.specs.Parts.{part}
 use Rattle.client.specs.Events.{Unreadable, Capabilities, Of, create_act, unread, event_of}
 use Rattle.client.specs.Client.{Stepped, refused, finished, acted, readied, stepped, bad_call, Whole, whole_of, guarded, received, locally_closed, started}
-use Rattle.client.specs.declared.Begun.TheVariants.{Done, Refused as NotBegun}
 use Rattle.client.proofs.Steps.{too_late, made_ready}
 use Rattle.client.proofs.Calls.{proper, refuses, passes as passes-by}
 use Rattle.steps.specs.Rows.{verdict_of, outcome_of, is_open, stage_of, is_spoiled, is_joining, passes, first_rows, data_rows, rows_of, receive_rows, close_rows, start_rows, start_outcome}
@@ -107,7 +103,7 @@ data_verdict (Joining wanted held) m g =
 
 -- ---- what a channel answers, open or not
 
-refuses_so : (why : Refusal) (concern : Concern) → verdict_of (Refuses why concern) ≡ refused_with why
+refuses_so : (why : Refusal) (concern : Option ℕ) → verdict_of (Refuses why concern) ≡ refused_with why
 unfolding verdict_of
 refuses_so why concern = refl
 
@@ -137,14 +133,14 @@ module _ (level n : ℕ) (room : Room) (r : Record) (part : List ℕ) where
       → says t (Bring (First len) bytes) ≡ first_held (row NotOpen (not t) ∷ row IsSpoiled (is_spoiled r.stage) ∷ row StillJoining (is_joining r.stage) ∷ row OverLimit (ltb MESSAGE_MAX len) ∷ row PastLength (ltb len (length bytes)) ∷ [])
   unfolding act first_held
   says_first true len bytes = landed_verdict n r part bytes (took r.stage (First len) (length bytes)) ∙ first_verdict r.stage len (length bytes)
-  says_first false len bytes = refuses_so NotOpen (Channel n)
+  says_first false len bytes = refuses_so NotOpen (Some n)
 
   pub says_data :
       (t : Bool) (bytes : List ℕ) → good_stage r.stage ≡ true
       → says t (Bring More bytes) ≡ first_held (row NotOpen (not t) ∷ row IsSpoiled (is_spoiled r.stage) ∷ row PastLength (passes r.stage (length bytes)) ∷ [])
   unfolding act first_held
   says_data true bytes g = landed_verdict n r part bytes (took r.stage More (length bytes)) ∙ data_verdict r.stage (length bytes) g
-  says_data false bytes g = refuses_so NotOpen (Channel n)
+  says_data false bytes g = refuses_so NotOpen (Some n)
 
   pub says_garbled : (t : Bool) (why : Refusal) → says t (Garbled why) ≡ refused_with why
   unfolding act verdict_of
@@ -174,7 +170,7 @@ soon_verdict st n a = go st.table.ready
         (t : Bool)
         → verdict (cond t (finished n st (view n st) (act st.table.level n (room_in st) (view n st) a)) (refused st (too_soon a))) ≡ cond (not t) (refused_with (too_soon a)) (verdict_of (act st.table.level n (room_in st) (view n st) a).answer)
     go true = refl
-    go false = refuses_so (too_soon a) NoChannel
+    go false = refuses_so (too_soon a) None
 
 -- it is refusal 7, but for a garbled block
 of_verdict :
@@ -240,7 +236,7 @@ module _ (t : Table) (store list pdu : List ℕ) (sound : sound_table t ≡ true
 
   unreadable : (why : Refusal) → verdict (stepped (state_of t store) (Unreadable why)) ≡ refused_with why
   unfolding stepped
-  unreadable why = refuses_so why NoChannel
+  unreadable why = refuses_so why None
 
   -- a garbled block gets its refusal, ready or not, open or not
   garbled_says : (n : ℕ) (why : Refusal) → found n (Garbled why) ≡ refused_with why
@@ -253,10 +249,10 @@ module _ (t : Table) (store list pdu : List ℕ) (sound : sound_table t ≡ true
       soon_verdict (state_of t store) n (Garbled why)
       ∙ choice (λ (v : Verdict). v ≡ refused_with why) (not t.ready) (λ e. refl) (λ e. garbled_says n why)
 
-  unread_says : (why : Refusal) (carried : Carried) → verdict (stepped (state_of t store) (unread why carried)) ≡ refused_with why
+  unread_says : (why : Refusal) (carried : Option ℕ) → verdict (stepped (state_of t store) (unread why carried)) ≡ refused_with why
   unfolding unread
-  unread_says why NoNumber = unreadable why
-  unread_says why (Number n) = garbled_verdict n why
+  unread_says why None = unreadable why
+  unread_says why (Some n) = garbled_verdict n why
 
   caps_says :
       (version : ℕ) (b : Bool) → t.ready ≡ b
@@ -322,7 +318,7 @@ guarded_verdict t store reply s rows f = go (bad_call t (length store) (length r
     go :
         (b : Bool) → bad_call t (length store) (length reply) ≡ b
         → verdict_of (guarded t store reply s).result.answer ≡ cond b (refused_with BadCall) (first_held rows)
-    go true e = whole_verdict reply (refused (state_of t store) BadCall) (refuses t store reply s e) ∙ refuses_so BadCall NoChannel
+    go true e = whole_verdict reply (refused (state_of t store) BadCall) (refuses t store reply s e) ∙ refuses_so BadCall None
     go false e = whole_verdict reply s (passes-by t store reply s e) ∙ f (proper t (length store) (length reply) e).sound
 
 -- receive refuses with the first row that holds, and with none if none does
@@ -377,6 +373,6 @@ pub start_refusals : (store : List ℕ) → start_outcome (started store).begun 
 unfolding started start_outcome comes_to start_rows first_held
 start_refusals store = go (eqb (length store) STORE)
   where
-    go : (a : Bool) → start_outcome (cond a Done (NotBegun BadCall)) ≡ comes_to tt (cond (not a) (refused_with BadCall) fine)
+    go : (a : Bool) → start_outcome (cond a (Ok tt) (Err BadCall)) ≡ comes_to tt (cond (not a) (refused_with BadCall) fine)
     go true = refl
     go false = refl

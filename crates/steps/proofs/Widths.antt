@@ -1,6 +1,7 @@
 -- "A channel number is its value: 5 in one byte and 5 in four bytes name one channel", carried to the event and so to every step: a
 -- PDU's event is a function of the values that it says, and two encodings of the same values are the same call.
 -- Assumes nothing.
+use Rattle.std.specs.Prelude.{Option}
 use Prim.Native.Nat.{ℕ, ◌≤◌}
 use mathlib.Core.Path.{◌≡◌, refl, sym, ap, ◌∙◌}
 use mathlib.Core.Bool.{true}
@@ -10,7 +11,6 @@ use Rattle.paper.specs.Sizes.{PDU_MAX}
 use Rattle.paper.specs.declared.Refusal.TheVariants.{WrongTime}
 use Rattle.reading.specs.Reading.{read_pdu}
 use Rattle.reading.specs.Garbled.{carries}
-use Rattle.reading.specs.declared.Carried.{Carried}
 use Rattle.reading.specs.Grammar.{Value, create_request_law, create_response_law, data_first_law, data_block, close, capabilities_request, capabilities_response, Read, values, refusal, meant, read_as, Encodes}
 use Rattle.reading.specs.declared.Pdu.{Pdu}
 use Rattle.reading.specs.declared.Pdu.TheVariants.{CreateRequest, CreateResponse, DataFirst, Data, Close, CapsRequest, CapsResponse, Refused}
@@ -33,7 +33,7 @@ event_of_value list (capabilities_request version charges) = Capabilities versio
 event_of_value list (capabilities_response version) = Unreadable WrongTime
 
 -- or of the refusal, and of the number that the PDU carries
-unfoldable pub event_of_read : List ℕ → Carried → Read → Event
+unfoldable pub event_of_read : List ℕ → Option ℕ → Read → Event
 event_of_read list carried (values v) = event_of_value list v
 event_of_read list carried (refusal why) = unread why carried
 

@@ -1,13 +1,11 @@
 -- What a refusal leaves: "writes nothing to the reply or to the message store and changes no channel, except that
 -- three listed refusals mark the one channel concerned as spoiled"; and with garbled blocks "Demand 1's exceptions grow by
 -- refusals 2, 3, 4 and 5 for such PDUs".
-use Rattle.std.specs.Prelude.{ℕ, ◌<◌, ◌≡◌, Bool, true, cond, ◌&&◌, ◌||◌, List, eqb, ltb, leb}
+use Rattle.std.specs.Prelude.{ℕ, ◌<◌, ◌≡◌, Bool, true, cond, ◌&&◌, ◌||◌, List, eqb, ltb, leb, Option, None, Some}
 use Rattle.paper.specs.Sizes.{PARTS}
 use Rattle.paper.specs.Refusals.{refusal_number}
 use Rattle.paper.specs.declared.Refusal.{Refusal}
 use Rattle.channel.specs.declared.Stage.TheVariants.{Spoiled}
-use Rattle.channel.specs.declared.Concern.{Concern}
-use Rattle.channel.specs.declared.Concern.TheVariants.{NoChannel, Channel}
 use Rattle.channel.specs.Channel.{Act, BadCreate, Create, Bring, Garbled, Closing, LocalClose, restaged}
 use Rattle.table.specs.declared.Table.{Table}
 use Rattle.table.specs.Table.{number_place, record_at, with_record}
@@ -33,10 +31,10 @@ spoils why Closing = is_of_three why
 spoils why LocalClose = is_of_three why
 
 -- "`-` for [..] refusals 1 to 7"; behind them the number that the event carries
-unfoldable pub concerned : Refusal → Event → Concern
-concerned why (Unreadable w) = NoChannel
-concerned why (Capabilities version) = NoChannel
-concerned why (Of n a) = cond (ltb 7 (refusal_number why)) (Channel n) NoChannel
+unfoldable pub concerned : Refusal → Event → Option ℕ
+concerned why (Unreadable w) = None
+concerned why (Capabilities version) = None
+concerned why (Of n a) = cond (ltb 7 (refusal_number why)) (Some n) None
 
 -- the table: as it was or, where the channel is open and the refusal spoils, with the stage of the one record that holds the
 -- number spoiled
@@ -55,7 +53,7 @@ IsOpen (Of n a) t = number_place n t < PARTS
 
 -- a call with an event that was refused: every byte of the store and the reply as it was, nothing to be sent
 pub record RefusedCall
-    (t : Table) (store reply : List ℕ) (e : Event) (w : Whole) (why : Refusal) (concern : Concern) : Type 0 where
+    (t : Table) (store reply : List ℕ) (e : Event) (w : Whole) (why : Refusal) (concern : Option ℕ) : Type 0 where
   pub stored : w.store ≡ store
   pub replied : w.reply ≡ reply
   pub none_sent : w.result.sent ≡ 0

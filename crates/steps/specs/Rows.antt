@@ -1,7 +1,8 @@
 -- The refusals once more, as the paper's table has them: a row for each number, "given exactly when", in the order
 -- on receive: "1, then reading, then 7, 6, 9, 8, 13, 10, 11, 12, the first that holds". The rows of reading are
 -- `reading_rows`, from the table of kinds. proofs/Refusals shows that the steps give exactly these.
-use Rattle.std.specs.Prelude.{ℕ, ◌-◌, Bool, true, false, not, List, [], ◌∷◌, ◌++◌, ltb, eqb, length}
+use Rattle.std.specs.Prelude.{ℕ, ◌-◌, Bool, true, false, not, List, [], ◌∷◌, ◌++◌, ltb, eqb, length, Result, Err, Ok}
+use Rattle.paper.specs.declared.Refusal.{Refusal}
 use Rattle.paper.specs.Sizes.{PARTS, STORE, MESSAGE_MAX}
 use Rattle.paper.specs.Refusals.{refusal_number}
 use Rattle.paper.specs.Rows.{Verdict, fine, refused_with, Row, row, Outcome, done, refusal}
@@ -20,8 +21,6 @@ use Rattle.channel.specs.declared.Answer.TheVariants.{Ready, Opened, Declined, H
 use Rattle.channel.specs.declared.Answer.TheVariants.{Refused as Refuses}
 use Rattle.table.specs.declared.Table.{Table}
 use Rattle.table.specs.Table.{number_place, record_at}
-use Rattle.client.specs.declared.Begun.{Begun}
-use Rattle.client.specs.declared.Begun.TheVariants.{Done, Refused as NotBegun}
 use Rattle.client.specs.Client.{bad_call}
 
 -- what an answer says of it
@@ -114,6 +113,6 @@ unfoldable pub start_rows : List ℕ → List Row
 start_rows store = row BadCall (not (eqb (length store) STORE)) ∷ []
 
 -- Start's answer in the paper's terms
-unfoldable pub start_outcome : Begun → Outcome (Unit {0})
-start_outcome Done = done tt
-start_outcome (NotBegun why) = refusal (refusal_number why)
+unfoldable pub start_outcome : Result (Unit {0}) Refusal → Outcome (Unit {0})
+start_outcome (Ok tt) = done tt
+start_outcome (Err why) = refusal (refusal_number why)

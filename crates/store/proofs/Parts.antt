@@ -1,6 +1,6 @@
 -- A write to part k reads back as written and leaves every other part as it was.
 -- Assumes nothing.
-use mathlib.Core.Path.{◌≡◌, sym, ◌∙◌}
+use mathlib.Core.Path.{◌≡◌, sym, ap, ◌∙◌}
 use mathlib.Core.Logic.{◌≢◌, ⊎_elim}
 use mathlib.Core.Bool.{true, false}
 use mathlib.Core.List.{List, ◌++◌, append_assoc}
@@ -15,7 +15,7 @@ use lib.Seq.{take-append-le, drop-append-le, take_at, drop_at, drop-drop}
 use Rattle.paper.specs.Sizes.{PART, PARTS, STORE}
 use Rattle.lists.specs.Bytes.{laid, zeros}
 use Rattle.lists.proofs.Cases.{both, lt_or_le}
-use Rattle.lists.proofs.Laid.{laid_eq, laid_fits, length_laid, whole, take_least, mid_zeros, back, from_to}
+use Rattle.lists.proofs.Laid.{laid_eq, laid_fits, length_laid, length_zeros, take_least, mid_zeros, back, from_to}
 use Rattle.store.specs.Parts.{part, with_part, has_part, block_put, part_cleared}
 
 -- part j ends before part k begins
@@ -133,32 +133,36 @@ pub come_back : (store : List ℕ) (k : ℕ) (bytes : List ℕ) → PART * k + P
 unfolding with_part
 come_back store k bytes h e = back store (PART * k) (PART * k + PART) bytes (omega arith) h (omega arith)
 
--- ---- a block that goes by way of an array
+pub put_back :
+    (store : List ℕ) (k at : ℕ) (block filled : List ℕ) → has_part (length store) k ≡ true
+    → filled ≡ laid (take (PART * k + PART - PART * k) (drop (PART * k) store)) at block
+    → put_mid (PART * k) (PART * k + PART - PART * k) store filled ≡ block_put store k at block
+put_back store k at block filled h e =
+    let fits = inside store k h in
+    let new : filled ≡ laid (part store k) at block = e ∙ rw (lent store k) in
+    let long : length filled ≡ PART = rw new (length_laid (part store k) at block ∙ length_part store k fits) in
+    come_back store k filled fits long ∙ rw new (sym (put_there store k at block h))
 
-module _ (part block room mid : List ℕ) (at n : ℕ) (h : at < length part) (long : length room ≡ length part)
-    (e : n ≡ min (length block) (length part - at)) where
-  pub block_front : length (take n block) ≡ n
-  block_front = simp length-take (omega arith)
+pub cleared_back :
+    (store : List ℕ) (k : ℕ) (cleared : List ℕ) → has_part (length store) k ≡ true
+    → cleared ≡ zeros (length (take (PART * k + PART - PART * k) (drop (PART * k) store)))
+    → put_mid (PART * k) (PART * k + PART - PART * k) store cleared ≡ part_cleared store k
+cleared_back store k cleared h e =
+    let fits = inside store k h in
+    let new : cleared ≡ zeros PART = e ∙ rw (lent store k, length_part store k fits) in
+    come_back store k cleared fits (rw new (length_zeros PART)) ∙ rw new (sym (cleared_there store k h))
 
-  pub room_front : length (take n room) ≡ n
-  room_front = simp length-take (omega arith)
+-- what the two writes rest on
+pub ruleset putting = (inside, lent, length_part, put_nowhere, put_back)
 
-  module _ (copied : mid ≡ laid (take n room) 0 (take n block)) where
-    pub between : mid ≡ take n block
-    between = copied ∙ whole (take n room) (take n block) (block_front ∙ sym room_front)
+pub ruleset clearing = (inside, cleared_nowhere, cleared_back)
 
-    pub in_array : take n (mid ++ drop n room) ≡ take n block
-    in_array = rw between (take_at (take n block) (drop n room) n block_front)
+-- ---- a block that goes by way of an array: as much of it as the part has room for
 
-    pub filled :
-        (last : List ℕ) → last ≡ laid (take (at + n - at) (drop at part)) 0 (take n (mid ++ drop n room))
-        → put_mid at (at + n - at) part last ≡ laid part at block
-    filled last copied2 =
-        let there : length (take (at + n - at) (drop at part)) ≡ n = simp (length-take, length-drop) (omega arith) in
-        let all : last ≡ take n block =
-        copied2 ∙ rw in_array (whole (take (at + n - at) (drop at part)) (take n block) (block_front ∙ sym there)) in
-        let least : min (length part - at) (length block) ≡ n = omega arith in
-        let long2 : length (take n block) ≡ at + n - at = rw block_front (omega arith) in
-        let some : laid part at (take n block) ≡ laid part at block =
-        rw (← least, take_least (length part - at) block) (laid_fits part at block) in
-        rw all (back part at (at + n) (take n block) (omega arith) (omega arith) long2 ∙ some)
+pub filled :
+    (part block : List ℕ) (at n : ℕ) → at ≤ length part → n ≡ min (length block) (length part - at)
+    → put_mid at (at + n - at) part (take n block) ≡ laid part at block
+filled part block at n h e =
+    let size : length (take n block) ≡ at + n - at = simp length-take (omega arith) in
+    let all : take n block ≡ take (length part - at) block = rw (← (take_least (length part - at) block)) (ap (λ (k : ℕ). take k block) (omega arith)) in
+    back part at (at + n) (take n block) (omega arith) (omega arith) size ∙ rw all (laid_fits part at block)

@@ -1,7 +1,7 @@
 // A walk over what a reader gives.
 //
-// `program` is the whole of a program that walks over standard input, and `run` walks over any reader. They only
-// read, call and write: what is written, when a read is due and when the run ends is `walking`'s to say, and no
+// `program` is the whole of a program that walks over standard input, `walk_file` walks over a file, and `run` over any
+// reader. They only read, call and write: what is written, when a read is due and when the run ends is `walking`'s to say, and no
 // contract can say what is read. A read or a write that fails is said on standard error, and ends the run.
 #![tactic(auto)]
 
@@ -10,12 +10,12 @@ ghost use Rattle.files.specs.Files.{Fills};
 ghost use Rattle.records.specs.Desk.{RECORD_MAX};
 ghost use Rattle.walking.specs.Walking.{room_for};
 
-use files::Filled;
+use files::Failed;
 use paper::STORE;
 use records::{Due, RECORD_MAX};
 use std::io::Read;
-use std::rt::Env;
-use walking::Job;
+use std::rt::{Env, Files};
+use walking::{Job, Told};
 
 // The bytes of the store: room for both ends'.
 const BOTH: usize = 2 * STORE;
@@ -34,20 +34,19 @@ fn supply<R: Read>(
     name: &[u8],
     buffer: &mut [u8],
     had: usize,
-) -> Filled
+) -> Result<usize, Failed>
     requires { had ≤ length buffer.old }
     ensures fills { Fills had (length buffer.old) result }
     ensures buffer_unchanged { take had buffer.new ≡ take had buffer.old }
 {
     match due {
         Due::Read => files::fill(rt, reader, name, buffer, had),
-        Due::Room => Filled::To(had),
-        Due::Nothing => Filled::To(had),
+        Due::Room | Due::Nothing => Ok(had),
     }
 }
 
 // Turn by turn: writes the text of each, and supplies the next. The output has room for any text of the job, and the
-// buffer for any record, so that no turn is in vain. Answers whether the walk came to its end.
+// buffer for any record, so that no turn is in vain.
 fn turn_by_turn<R: Read>(
     rt: &(impl Print + Eprint),
     job: Job,
@@ -57,41 +56,32 @@ fn turn_by_turn<R: Read>(
     store: &mut [u8],
     buffer: &mut [u8],
     out: &mut [u8],
-) -> bool
+) -> Result<(), Failed>
     requires { (room_for job ≤ length out.old) × (RECORD_MAX ≤ length buffer.old) }
     ensures { (name.now ≡ name.now) × (list.now ≡ list.now) }
 {
     let mut turned = walking::begin(job, store, out);
     // A proved loop has to end, and nothing says that an input does: a count that no run uses up.
-    let mut turns = u64::MAX;
-    while 0 < turns {
-        turns -= 1;
-        let laid = turned.laid;
-        if !files::write(rt, &out[..laid]) {
-            return false;
-        }
+    for _ in 0..u64::MAX {
+        files::write(rt, &out[..turned.laid])?;
         let stand = turned.stand;
-        let due = stand.due;
-        if let Due::Nothing = due {
-            return true;
+        if let Due::Nothing = stand.due {
+            return Ok(());
         }
-        let Filled::To(end) = supply(rt, due, reader, name, buffer, stand.had) else {
-            return false;
-        };
+        let end = supply(rt, stand.due, reader, name, buffer, stand.had)?;
         turned = walking::turn(job, stand, store, list, &mut buffer[..end], out);
     }
-    false
+    Err(Failed)
 }
 
-// Does a job over what the reader gives. Its name is said where it can't be read. Answers whether the run came to its
-// end.
+// Does a job over what the reader gives, until the run comes to its end. Its name is said where it can't be read.
 pub fn run<R: Read>(
     rt: &(impl Print + Eprint),
     job: Job,
     reader: &mut R,
     name: &[u8],
     list: &[u8],
-) -> bool
+) -> Result<(), Failed>
     ensures { (name.now ≡ name.now) × (list.now ≡ list.now) }
 {
     let mut store = [0u8; BOTH];
@@ -110,6 +100,16 @@ pub fn run<R: Read>(
     )
 }
 
+// Walks over the file as the walker does, with the list, behind a line with the file's name.
+pub fn walk_file(rt: &(impl Files + Print + Eprint), name: &[u8], list: &[u8]) -> Result<(), Failed>
+    ensures { (name.now ≡ name.now) × (list.now ≡ list.now) }
+{
+    let mut file = files::open(rt, name)?;
+    files::write(rt, name)?;
+    files::write(rt, b"\n")?;
+    run(rt, Job::Client(Told::Lines), &mut file, name, list)
+}
+
 // A program that does a job over standard input. It takes no arguments: any is bad use, which is said in the line
 // given.
 pub fn program(rt: &(impl Env + Input + Print + Eprint), job: Job, list: &[u8], bad_use: &[u8])
@@ -119,5 +119,5 @@ pub fn program(rt: &(impl Env + Input + Print + Eprint), job: Job, list: &[u8], 
         files::complain(rt, bad_use);
         return;
     }
-    run(rt, job, &mut rt.reader(), b"standard input", list);
+    let _ = run(rt, job, &mut rt.reader(), b"standard input", list);
 }

@@ -8,46 +8,46 @@ ghost use Rattle.std.specs.Prelude.{◌≡◌};
 ghost use Rattle.strict.specs.Senders.{named_by};
 
 use files::ARGUMENT;
+use std::rt::Env;
 use walking::Job;
 
-// Who sent the PDUs.
-#[derive(Drop)]
-enum Sender {
-    Known { from_server: bool },
-    Unknown,
-}
+// The words for who sent the PDUs.
+const SERVER: &[u8] = b"server";
 
-// The sender that a word names.
-fn named(word: &[u8]) -> Sender
+const CLIENT: &[u8] = b"client";
+
+// Whether the server sent the PDUs, by the word that names who did, or nothing where it names nobody.
+fn named(word: &[u8]) -> Option<bool>
     ensures { result ≡ named_by word.now }
 {
-    if check::same(word, b"server") {
-        return Sender::Known { from_server: true };
+    if word == SERVER {
+        return Some(true);
     }
-    if check::same(word, b"client") {
-        return Sender::Known { from_server: false };
+    if word == CLIENT {
+        return Some(false);
     }
-    Sender::Unknown
+    None
+}
+
+// Whether the server sent the PDUs, by the program's one argument.
+fn asked(rt: &impl Env) -> Option<bool> {
+    if files::arguments(rt) != 1 {
+        return None;
+    }
+    let mut word = [0u8; ARGUMENT];
+    // One that is too long names nobody.
+    let n = files::argument(rt, 1, &mut word)?;
+    named(&word[..n])
 }
 
 fn main(rt: HostRuntime) {
-    if files::arguments(&rt) == 1 {
-        // One that is too long comes as nothing, which names nobody.
-        let mut word = [0u8; ARGUMENT];
-        let n = files::argument(&rt, 1, &mut word);
-        if let Sender::Known { from_server } = named(&word[..n]) {
-            stream::run(
-                &rt,
-                Job::Strict { from_server },
-                &mut rt.reader(),
-                b"standard input",
-                b"",
-            );
-            return;
-        }
-    }
-    files::complain(
-        &rt,
-        b"strict: call it as `strict server` or `strict client`, by who sent the PDUs on standard input\n",
-    );
+    let Some(from_server) = asked(&rt) else {
+        files::complain(
+            &rt,
+            b"strict: call it as `strict server` or `strict client`, by who sent the PDUs on standard input\n",
+        );
+        return;
+    };
+    let job = Job::Strict { from_server };
+    let _ = stream::run(&rt, job, &mut rt.reader(), b"standard input", b"");
 }

@@ -144,13 +144,15 @@ none : (t : Bool) → cond {A = ℕ} t 0 0 ≡ 0
 none true = refl
 none false = refl
 
-pub idle_adds : (r : Record) → r.stage ≡ Idle → Adds r 0
+-- a stage in which no message is being joined
+pub else_adds : (r : Record) → ((wanted held : ℕ) → r.stage ≡ Joining wanted held → ⊥) → Adds r 0
 unfolding is_open awaits to_come good_stage
-idle_adds r e = (rw e, rw e (none (is_open r)))
-
-pub spoiled_adds : (r : Record) → r.stage ≡ Spoiled → Adds r 0
-unfolding is_open awaits to_come good_stage
-spoiled_adds r e = (rw e, rw e (none (is_open r)))
+else_adds r h = go r.stage refl
+  where
+    go : (s : Stage) → r.stage ≡ s → Adds r 0
+    go Idle e = (rw e, rw e (none (is_open r)))
+    go (Joining wanted held) e = absurd (h wanted held e)
+    go Spoiled e = (rw e, rw e (none (is_open r)))
 
 module _ (r : Record) (wanted held : ℕ) (e : r.stage ≡ Joining wanted held) (less : held < wanted) (fits : wanted ≤ MESSAGE_MAX) where
   joining_good : good_stage r.stage ≡ true

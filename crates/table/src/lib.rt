@@ -3,7 +3,7 @@
 // A table goes in by value and comes back. Every function takes any table, unsound ones too, and any number and place.
 #![tactic(auto)]
 
-ghost use Rattle.std.specs.Prelude.{◌≡◌, true, false, cond, ◌&&◌, ◌-◌, eqb, drop};
+ghost use Rattle.std.specs.Prelude.{◌≡◌, true, false, cond, ◌&&◌, eqb, drop};
 ghost use Rattle.channel.specs.Channel.{blank};
 ghost use Rattle.table.specs.Table.{empty_table, holds, with_record, free_place, found_in, open_in, home_in};
 ghost use Rattle.table.specs.Table.{bit_of, site_of, next_of, totals_after, put_back};
@@ -54,6 +54,7 @@ pub fn blank() -> Record
 }
 
 // A table as Start makes it: not ready, every record free.
+#[tactic(auto, unfolding(crate::specs::Table::empty_table, paper::specs::Sizes::PARTS))]
 pub fn empty() -> Table
     ensures { result ≡ empty_table }
 {
@@ -70,6 +71,7 @@ pub fn empty() -> Table
 }
 
 // Whether the record holds the number, open or awaited.
+#[tactic(auto, unfolding(crate::specs::Table::holds))]
 fn holds(record: Record, number: u32) -> bool
     ensures { result ≡ holds number «record» }
 {
@@ -77,13 +79,15 @@ fn holds(record: Record, number: u32) -> bool
 }
 
 // Whether the record is open: it holds a number that isn't awaited.
+#[tactic(auto, unfolding(crate::specs::Totals::is_open))]
 fn is_open(record: Record) -> bool
     ensures { result ≡ is_open «record» }
 {
     record.taken & !record.awaited
 }
 
-// The search for the record that holds the number.
+// The search for the record that holds the number. It leaves a loop of its own, as `find_open` and `find_free` do: one search
+// over a closure, or a `for`, makes a call of the manager cost twice as much (bench/NOTES.md).
 pub fn find_number(table: Table, number: u32) -> Found
     ensures { result ≡ found_in number table }
 {
@@ -148,98 +152,77 @@ pub fn find(table: Table, number: u32) -> Found
     if found.place < PARTS {
         return found;
     }
-    let row = found.row;
     Found {
         place: find_free(table),
-        row,
+        ..found
     }
 }
 
 // A place as the bit with its number, or no bit where the table doesn't have it: `put` says why a place is told so.
+#[tactic(auto, unfolding(crate::specs::Table::bit_of, paper::specs::Sizes::PARTS))]
 fn bit(k: usize) -> u32
     ensures { result ≡ bit_of k }
 {
     if PARTS <= k {
         return 0;
     }
-    let mut power = 1;
-    let mut i = 0;
-    while i < k {
-        power = power * 2;
-        i += 1;
-    }
-    power
+    1 << k
 }
 
 // Where a change is put: nowhere, if the record stays.
+#[tactic(auto, unfolding(crate::specs::Table::site_of, paper::specs::Sizes::PARTS))]
 fn site(k: usize, change: Change) -> usize
     ensures { result ≡ site_of k change }
 {
     match change {
         Change::Stays => PARTS,
-        Change::Becomes(_) => k,
-        Change::Frees => k,
+        Change::Becomes(_) | Change::Frees => k,
     }
 }
 
 // The record that a change puts.
+#[tactic(auto, unfolding(crate::specs::Table::next_of))]
 fn next_record(change: Change) -> Record
     ensures { result ≡ next_of change }
 {
     match change {
-        Change::Stays => blank(),
         Change::Becomes(row) => row,
-        Change::Frees => blank(),
+        Change::Stays | Change::Frees => blank(),
     }
 }
 
 // What a record adds to the channels: an open one itself, an awaited or a free one nothing.
+#[tactic(auto, unfolding(crate::specs::Totals::opens))]
 fn opens(record: Record) -> u32
     ensures { result ≡ opens «record» }
 {
-    if is_open(record) {
-        return 1;
-    }
-    0
-}
-
-// What a message of which `held` bytes of `wanted` are there adds to the bytes awaited, if its record is open.
-fn left(counts: bool, wanted: u16, held: u16) -> u32
-    ensures { result ≡ cond counts (wanted - held) 0 }
-{
-    if !counts {
-        return 0;
-    }
-    if wanted <= held {
-        return 0;
-    }
-    (wanted - held) as u32
+    is_open(record) as u32
 }
 
 // What a record adds to the bytes awaited.
+#[tactic(auto, unfolding(crate::specs::Totals::awaits, crate::specs::Totals::to_come))]
 fn awaits(record: Record) -> u32
     ensures { result ≡ awaits «record» }
 {
-    let counts = is_open(record);
-    let stage = record.stage;
-    match stage {
-        Stage::Idle => 0,
-        Stage::Joining { wanted, held } => left(counts, wanted, held),
-        Stage::Spoiled => 0,
+    if !is_open(record) {
+        return 0;
+    }
+    match record.stage {
+        Stage::Idle | Stage::Spoiled => 0,
+        Stage::Joining { wanted, held } => wanted.saturating_sub(held) as u32,
     }
 }
 
 // A total, after a record that added `old` to it adds `new`. In a sound table neither end of a u32 is met.
+#[tactic(auto, unfolding(crate::specs::Totals::moved))]
 fn moved(total: u32, old: u32, new: u32) -> u32
     ensures { result ≡ moved total old new }
 {
-    if new == old {
-        return total;
-    }
-    ((total as u64 + new as u64 + 4294967296 - old as u64) % 4294967296) as u32
+    total.wrapping_add(new).wrapping_sub(old)
 }
 
 // The totals, after one record takes the place of another.
+#[tactic(auto, unfolding(crate::specs::Totals::changed))]
 fn changed(totals: Totals, old: Record, new: Record) -> Totals
     ensures { result ≡ changed totals old new }
 {
@@ -250,6 +233,7 @@ fn changed(totals: Totals, old: Record, new: Record) -> Totals
 }
 
 // The totals, after what becomes of a record.
+#[tactic(auto, unfolding(crate::specs::Table::totals_after))]
 pub fn totals_after(totals: Totals, row: Record, change: Change) -> Totals
     ensures { result ≡ totals_after totals row change }
 {
@@ -276,13 +260,11 @@ pub fn put(table: Table, ready: bool, level: u8, k: usize, row: Record, change: 
     let mut next = table;
     next.ready = ready;
     next.level = level;
-    let mut i = 0;
-    while i < PARTS {
+    for i in 0..PARTS {
         if rest % 2 == 1 {
             next.records[i] = record;
         }
-        rest = rest / 2;
-        i += 1;
+        rest /= 2;
     }
     let before = table.totals;
     next.totals = totals_after(before, row, change);
@@ -293,13 +275,10 @@ pub fn put(table: Table, ready: bool, level: u8, k: usize, row: Record, change: 
 fn held_from(table: Table, k: usize, number: u32) -> bool
     ensures { result ≡ some (holds number) (drop k table.records) }
 {
-    let mut i = k;
-    while i < PARTS {
-        let record = table.records[i];
-        if holds(record, number) {
+    for i in k..PARTS {
+        if holds(table.records[i], number) {
             return true;
         }
-        i += 1;
     }
     false
 }
@@ -314,9 +293,7 @@ fn marks_apart(table: Table) -> bool
 {
     let mut marks = [false; MARKS];
     let mut channels = 0;
-    let mut i = PARTS;
-    while 0 < i {
-        i -= 1;
+    for i in (0..PARTS).rev() {
         let record = table.records[i];
         if record.taken {
             let mark = record.number as usize % MARKS;
@@ -330,17 +307,16 @@ fn marks_apart(table: Table) -> bool
     channels == table.totals.channels
 }
 
-// Whether no number stands in two records open or awaited, each compared with those behind it.
+// Whether no number stands in two records open or awaited, each compared with those behind it. By index: over the slice that
+// is left, a step takes a quarter more (bench/NOTES.md).
 fn pairs_apart(table: Table) -> bool
     ensures { result ≡ no_number_twice table.records }
 {
-    let mut i = 0;
-    while i < PARTS {
+    for i in 0..PARTS {
         let record = table.records[i];
         if record.taken && held_from(table, i + 1, record.number) {
             return false;
         }
-        i += 1;
     }
     true
 }
@@ -350,11 +326,8 @@ fn count(table: Table) -> u32
     ensures { result ≡ total opens table.records }
 {
     let mut channels = 0;
-    let mut i = 0;
-    while i < PARTS {
-        let record = table.records[i];
+    for record in table.records {
         channels += opens(record);
-        i += 1;
     }
     channels
 }
@@ -377,18 +350,13 @@ fn good_numbers(table: Table) -> bool
 fn good_seats(table: Table) -> bool
     ensures { result ≡ every (good_seat table.ready) table.records }
 {
-    let mut i = 0;
-    while i < PARTS {
-        let record = table.records[i];
+    for record in table.records {
         if 3 < record.class {
             return false;
         }
-        if record.taken {
-            if !table.ready {
-                return false;
-            }
+        if record.taken && !table.ready {
+            return false;
         }
-        i += 1;
     }
     true
 }
@@ -397,15 +365,7 @@ fn good_seats(table: Table) -> bool
 fn some_awaited(table: Table) -> bool
     ensures { result ≡ some is_awaited table.records }
 {
-    let mut i = 0;
-    while i < PARTS {
-        let record = table.records[i];
-        if record.awaited {
-            return true;
-        }
-        i += 1;
-    }
-    false
+    table.records.iter().any(|record| record.awaited)
 }
 
 // Whether the record is open, in a table of which it is known whether some record has the mark.
@@ -425,26 +385,19 @@ fn stages(table: Table, marked: bool) -> bool
     ensures { result ≡ (every is_staged table.records && eqb table.totals.awaited (total awaits table.records)) }
 {
     let mut awaited = 0;
-    let mut i = 0;
-    while i < PARTS {
-        let record = table.records[i];
+    for record in table.records {
         let stage = record.stage;
-        match stage {
-            Stage::Idle => {}
-            Stage::Joining { wanted, held } => {
-                if wanted <= held {
-                    return false;
-                }
-                if MESSAGE_MAX < wanted as usize {
-                    return false;
-                }
-                if counts(record, marked) {
-                    awaited += (wanted - held) as u32;
-                }
+        if let Stage::Joining { wanted, held } = stage {
+            if wanted <= held {
+                return false;
             }
-            Stage::Spoiled => {}
+            if MESSAGE_MAX < wanted as usize {
+                return false;
+            }
+            if counts(record, marked) {
+                awaited += (wanted - held) as u32;
+            }
         }
-        i += 1;
     }
     table.totals.awaited == awaited
 }
@@ -461,13 +414,11 @@ fn good_stages(table: Table) -> bool
 }
 
 // Whether the level is 1 or 2, when ready.
+#[tactic(auto, unfolding(crate::specs::Sound::good_level))]
 fn good_level(ready: bool, level: u8) -> bool
     ensures { result ≡ good_level ready level }
 {
-    if !ready {
-        return true;
-    }
-    level == 1 || level == 2
+    !ready || level == 1 || level == 2
 }
 
 // Whether the table is sound. The manager asks at every call, so each record is looked at three times and no more, unless

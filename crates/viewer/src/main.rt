@@ -9,12 +9,11 @@
 // What is printed and said of names and lines is the work of `viewing`.
 #![tactic(auto)]
 
-ghost use Rattle.std.specs.Prelude.{◌≡◌};
-ghost use Rattle.viewing.specs.Ways.{is_known};
+ghost use Rattle.std.specs.Prelude.{◌≡◌, is_some};
 
-use files::{ARGUMENT, Filled};
+use files::ARGUMENT;
 use std::io::Read;
-use viewing::{Gathered, LINES_MAX, SAY_MAX, Shown, TEXT_MAX, Way};
+use viewing::{LINES_MAX, NotGathered, NotShown, SAY_MAX, TEXT_MAX, Way};
 
 // One byte more than a text can have: what has it is too long, and as a list it is outside its rule.
 const INPUT: usize = TEXT_MAX + 1;
@@ -25,16 +24,16 @@ fn show(rt: &(impl Print + Eprint), list: &[u8])
 {
     let mut out = [0u8; LINES_MAX];
     match viewing::show(list, &mut out) {
-        Shown::Lines(n) => {
-            files::write(rt, &out[..n]);
+        Ok(n) => {
+            let _ = files::write(rt, &out[..n]);
         }
-        Shown::Outside => {
+        Err(NotShown::Outside) => {
             files::complain(
                 rt,
                 b"viewer: no listener list: it has at most 512 bytes, of names that are not empty, each with a zero byte behind it\n",
             );
         }
-        Shown::NoRoom => {}
+        Err(NotShown::NoRoom) => {}
     }
 }
 
@@ -45,10 +44,10 @@ fn complain(rt: &impl Eprint, text: &[u8])
     let mut out = [0u8; SAY_MAX];
     let mut number: u64 = 1;
     let mut at = 0;
+    // `line_at` says where the next line begins.
     while at < text.len() {
         let line = viewing::line_at(text, at);
-        let verdict = line.verdict;
-        let n = viewing::say(&mut out, number, verdict);
+        let n = viewing::say(&mut out, number, line.verdict);
         files::complain(rt, &out[..n]);
         at = line.next;
         number += 1;
@@ -61,33 +60,32 @@ fn gather(rt: &(impl Print + Eprint), text: &[u8])
 {
     let mut out = [0u8; INPUT];
     match viewing::gather(text, &mut out) {
-        Gathered::Bytes(n) => {
-            if files::write(rt, &out[..n]) {
+        Ok(n) => {
+            if files::write(rt, &out[..n]).is_ok() {
                 complain(rt, text);
             }
         }
-        Gathered::TooLong => {
+        Err(NotGathered::TooLong) => {
             files::complain(rt, b"viewer: the lines have more than 65,536 bytes\n");
         }
-        Gathered::NoRoom => {}
+        Err(NotGathered::NoRoom) => {}
     }
 }
 
 // Does what is asked for, and answers whether anything was.
-fn run<R: Read>(rt: &(impl Print + Eprint), reader: &mut R, way: Way) -> bool
-    ensures { result ≡ is_known way }
+fn run<R: Read>(rt: &(impl Print + Eprint), reader: &mut R, way: Option<Way>) -> bool
+    ensures { result ≡ is_some way }
 {
-    if let Way::Unknown = way {
+    let Some(way) = way else {
         return false;
-    }
+    };
     let mut input = [0u8; INPUT];
-    let Filled::To(n) = files::load(rt, reader, b"standard input", &mut input) else {
+    let Ok(n) = files::load(rt, reader, b"standard input", &mut input) else {
         return true;
     };
     match way {
         Way::ToUtf8 => show(rt, &input[..n]),
         Way::ToList => gather(rt, &input[..n]),
-        Way::Unknown => {}
     }
     true
 }
@@ -96,7 +94,7 @@ fn main(rt: HostRuntime) {
     if files::arguments(&rt) == 1 {
         // One that is too long comes as nothing, which asks for nothing.
         let mut word = [0u8; ARGUMENT];
-        let n = files::argument(&rt, 1, &mut word);
+        let n = files::argument(&rt, 1, &mut word).unwrap_or(0);
         let way = viewing::asked(&word[..n]);
         if run(&rt, &mut rt.reader(), way) {
             return;

@@ -1,17 +1,17 @@
 -- A list shown and gathered again, and lines gathered and shown again; and what is said of lines, one by one.
 -- Assumes nothing.
+use Rattle.std.specs.Prelude.{Some, is_some, is_ok}
 use mathlib.Core.Path.{◌≡◌, refl, sym, ap, ◌∙◌}
 use mathlib.Core.Bool.{Bool, true, false, not}
 use mathlib.Core.List.{List, [], ◌∷◌, ◌++◌, append_assoc}
 use mathlib.Core.Logic.{⊎_elim}
-use mathlib.Core.Option.{some}
 use Prim.Native.Nat.{ℕ, zero, suc, ◌+◌, ◌-◌, ◌≤◌, ◌<◌, min}
 use native.Mathlib.Omega.{arith}
 use borrow.Author.Tests.{lt-ltb, le-ltb, not-true}
 use lib.ListN.{length, drop, drop_of_length-le}
 use Rattle.lists.specs.Bytes.{is_byte}
 use Rattle.lists.specs.Places.{place}
-use Rattle.lists.specs.Lines.{LF, lines_in}
+use Rattle.lists.specs.Lines.{LF, lines_in, first_line}
 use Rattle.lists.proofs.Cases.{both, lt_or_le, true_not_false}
 use Rattle.lists.proofs.Laid.{to_end}
 use Rattle.lists.proofs.Cuts.{lines_front, lines_on}
@@ -20,12 +20,12 @@ use Rattle.listeners.specs.Listeners.{names, is_empty, none_empty, all_names, go
 use Rattle.listeners.proofs.Names.{Clean, names_front}
 use Rattle.listeners.proofs.Lists.{all_none, all_front}
 use Rattle.listeners.proofs.Written.{EachClean, good_written}
-use Rattle.codepage.specs.Names.{utf8_of, name_of, is_some, result_of}
+use Rattle.codepage.specs.Names.{utf8_of, name_of, result_of}
 use Rattle.codepage.proofs.Answers.{is_result}
 use Rattle.codepage.proofs.Names.{name_back, text_back, utf8_long}
 use Rattle.codepage.proofs.Ascii.{text_without, name_without}
 use Rattle.viewing.specs.Lists.{name_line, name_lines}
-use Rattle.viewing.specs.Texts.{verdict_on, is_kept, entry_of, entries_of, left_out, first_line, line_at, said_from}
+use Rattle.viewing.specs.Texts.{verdict_on, entry_of, entries_of, left_out, line_at, said_from}
 use Rattle.viewing.specs.Promises.{Tellable, AllKept, ended}
 use Rattle.viewing.proofs.Verdicts.{Keeps, kept_so, so_kept}
 
@@ -77,9 +77,9 @@ record Entered (line : List ℕ) : Type 0 where
   pub entry_is : entry_of line ≡ name ++ (0 ∷ [])
   pub filled : 0 < length name
   pub clean : Clean name
-  pub text : utf8_of name ≡ some line
+  pub text : utf8_of name ≡ Some line
 
-entered : (line : List ℕ) → is_kept (verdict_on line) ≡ true → Entered line
+entered : (line : List ℕ) → is_ok (verdict_on line) ≡ true → Entered line
 unfolding entry_of
 entered line kept =
     let keeps = kept_so line kept in
@@ -96,7 +96,7 @@ entered line kept =
     }
 
 -- one that isn't kept has no entry
-left_out_law : (line : List ℕ) → is_kept (verdict_on line) ≡ false → entry_of line ≡ []
+left_out_law : (line : List ℕ) → is_ok (verdict_on line) ≡ false → entry_of line ≡ []
 unfolding entry_of
 left_out_law line off = rw off
 
@@ -104,9 +104,9 @@ left_out_law line off = rw off
 pub entries_names : (lines : List (List ℕ)) → all_names (entries_of lines) ≡ true
 unfolding entries_of
 entries_names [] = all_none
-entries_names (line ∷ lines) = go (is_kept (verdict_on line)) refl (entries_names lines)
+entries_names (line ∷ lines) = go (is_ok (verdict_on line)) refl (entries_names lines)
   where
-    go : (t : Bool) → is_kept (verdict_on line) ≡ t → all_names (entries_of lines) ≡ true → all_names (entry_of line ++ entries_of lines) ≡ true
+    go : (t : Bool) → is_ok (verdict_on line) ≡ t → all_names (entries_of lines) ≡ true → all_names (entry_of line ++ entries_of lines) ≡ true
     go true e rest =
         let so = entered line e in
         let front = append_assoc so.name (0 ∷ []) (entries_of lines) in
@@ -118,7 +118,7 @@ pub lines_back : (lines : List (List ℕ)) → AllKept lines → name_lines (nam
 unfolding entries_of name_lines names ended name_line
 lines_back [] all = refl
 lines_back (line ∷ lines) all =
-    let so = entered line (ap is_kept all.0) in
+    let so = entered line (ap is_ok all.0) in
     let front = append_assoc so.name (0 ∷ []) (entries_of lines) in
     rw (so.entry_is, front, names_front so.name (entries_of lines) so.clean, so.text, lines_back lines all.1)
 
@@ -127,7 +127,7 @@ lines_back (line ∷ lines) all =
 -- at a place of a text
 pub line_on : (text : List ℕ) (at : ℕ) → at < length text
     → (lines_in (drop at text) ≡ first_line (drop at text) ∷ lines_in (drop (line_at text at).next text)) × (at < (line_at text at).next)
-unfolding line_at first_line
+unfolding line_at
 line_on text at there =
     let n = place (is_byte LF) (drop at text) in
     let first = ap (place (is_byte LF)) (sym (to_end text at)) in

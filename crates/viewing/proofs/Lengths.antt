@@ -1,8 +1,8 @@
 -- How long the lines of a list are, and the list of lines.
 -- Assumes nothing.
+use Rattle.std.specs.Prelude.{Option, None, Some}
 use mathlib.Core.Path.{◌≡◌, refl}
 use mathlib.Core.List.{List}
-use mathlib.Core.Option.{Option, none, some}
 use Prim.Native.Nat.{ℕ, ◌*◌, ◌≤◌}
 use native.Mathlib.Omega.{arith}
 use lib.ListN.{length}
@@ -18,16 +18,16 @@ pub result_long : (name : List ℕ) → length (result_of (utf8_of name)) ≤ 3 
 result_long name = go (utf8_of name) refl
   where
     go : (r : Option (List ℕ)) → utf8_of name ≡ r → length (result_of r) ≤ 3 * length name
-    go none e = omega arith
-    go (some text) e = (utf8_long name text e).1
+    go None e = omega arith
+    go (Some text) e = (utf8_long name text e).1
 
 -- a name of a text
 pub name_long : (text : List ℕ) → length (result_of (name_of text)) ≤ length text
 name_long text = go (name_of text) refl
   where
     go : (r : Option (List ℕ)) → name_of text ≡ r → length (result_of r) ≤ length text
-    go none e = omega arith
-    go (some name) e = (utf8_long name text (text_back text name e)).0
+    go None e = omega arith
+    go (Some name) e = (utf8_long name text (text_back text name e)).0
 
 -- "refused 19"
 pub refused_long : length (refused_line (refusal_number NoPartner)) ≡ 11

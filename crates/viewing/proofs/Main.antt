@@ -15,7 +15,7 @@ use Rattle.listeners.specs.Listeners.{names, all_names, good_list}
 use Rattle.codepage.specs.Points.{points, point_of, point_for, byte_for}
 use Rattle.codepage.specs.Utf8.{sequences, sequence_of, spelled, point_in, begins, width_by, width_at, points_in, is_well_formed}
 use Rattle.codepage.specs.Names.{partners, utf8_of, name_of}
-use Rattle.viewing.specs.declared.Verdict.TheVariants.{Kept}
+use Rattle.std.specs.Prelude.{Ok}
 use Rattle.viewing.specs.Lists.{name_line, name_lines}
 use Rattle.viewing.specs.Texts.{verdict_on, entry_of, entries_of, left_out, said_from}
 use Rattle.viewing.specs.Promises.{Tellable, AllKept, ended}
@@ -35,10 +35,10 @@ lines_back = back.lines_back
 -- ---- what is gathered
 
 -- a line is kept exactly if it has bytes, none of them zero, and a name
-pub kept_so : (line : List ℕ) → verdict_on line ≡ Kept → verdicts.Keeps line
+pub kept_so : (line : List ℕ) → verdict_on line ≡ Ok tt → verdicts.Keeps line
 kept_so = verdicts.kept_keeps
 
-pub so_kept : (line : List ℕ) → verdicts.Keeps line → verdict_on line ≡ Kept
+pub so_kept : (line : List ℕ) → verdicts.Keeps line → verdict_on line ≡ Ok tt
 so_kept = verdicts.so_kept
 
 -- whatever is left out, what is gathered is names, each ended by a zero byte

@@ -1,8 +1,8 @@
 -- A conversion into the part of a buffer from a place on, and a byte behind what it writes.
 -- Assumes nothing.
+use Rattle.std.specs.Prelude.{Option, None, Some, Result, Ok, Err}
 use mathlib.Core.Path.{◌≡◌, refl, sym, ◌∙◌}
 use mathlib.Core.List.{List, [], ◌∷◌, ◌++◌}
-use mathlib.Core.Option.{Option, none, some}
 use Prim.Native.Nat.{ℕ, ◌+◌, ◌-◌, ◌≤◌}
 use native.Mathlib.Omega.{arith}
 use borrow.Rule.Slice.PartMut.{put_mid}
@@ -11,8 +11,6 @@ use lib.Seq.{length-take-le}
 use Rattle.paper.specs.declared.Refusal.{Refusal}
 use Rattle.lists.specs.Bytes.{laid}
 use Rattle.lists.proofs.Laid.{back_end, laid_behind}
-use Rattle.codepage.specs.declared.Converted.{Converted}
-use Rattle.codepage.specs.declared.Converted.TheVariants.{Length, Refused}
 use Rattle.codepage.specs.Names.{result_of, answer_for, buffer_for}
 use Rattle.codepage.proofs.Answers.{refused_none, refused_leaves, length_laid_so}
 
@@ -34,17 +32,17 @@ module _ (r : Option (List ℕ)) (out : List ℕ) (at : ℕ) (there : at ≤ len
   unfolding laid
   nothing_laid = back_end out at part [] there refl
 
-  module _ (answer : Converted) (after : List ℕ) (said : answer ≡ answer_for r part) (left : after ≡ buffer_for r part) where
+  module _ (answer : Result ℕ Refusal) (after : List ℕ) (said : answer ≡ answer_for r part) (left : after ≡ buffer_for r part) where
     -- with room it is refused only where there is no result, and the buffer stays
-    pub refused_so : (why : Refusal) → answer ≡ Refused why → length (result_of r) ≤ length out - at
-        → (r ≡ none) × (put_mid at (length out - at) out after ≡ out)
+    pub refused_so : (why : Refusal) → answer ≡ Err why → length (result_of r) ≤ length out - at
+        → (r ≡ None) × (put_mid at (length out - at) out after ≡ out)
     refused_so why e room =
         let is = sym said ∙ e in
         (refused_none r part why is (rw part_long room), rw (left, refused_leaves r part why is) nothing_laid)
 
     -- a length is that of the result, which stands in the buffer from the place on
-    pub written_so : (n : ℕ) → answer ≡ Length n
-        → (r ≡ some (result_of r))
+    pub written_so : (n : ℕ) → answer ≡ Ok n
+        → (r ≡ Some (result_of r))
         × ((n ≡ length (result_of r)) × ((at + n ≤ length out) × (put_mid at (length out - at) out after ≡ laid out at (result_of r))))
     written_so n e =
         let so = length_laid_so r part n (sym said ∙ e) in (

@@ -1,10 +1,9 @@
 -- What is promised of the two ways.
-use Rattle.std.specs.Prelude.{◌≡◌, ℕ, true, List, [], ◌∷◌, ◌++◌, length}
+use Rattle.std.specs.Prelude.{◌≡◌, ℕ, true, List, [], ◌∷◌, ◌++◌, length, is_some, Ok}
 use Rattle.lists.specs.Bytes.{is_byte}
 use Rattle.lists.specs.Places.{place}
 use Rattle.lists.specs.Lines.{LF}
-use Rattle.codepage.specs.Names.{utf8_of, is_some}
-use Rattle.viewing.specs.declared.Verdict.TheVariants.{Kept}
+use Rattle.codepage.specs.Names.{utf8_of}
 use Rattle.viewing.specs.Texts.{verdict_on}
 
 -- names that a line can tell: each can be converted, and none has an LF
@@ -15,7 +14,7 @@ Tellable (name ∷ names) = ((is_some (utf8_of name) ≡ true) × (place (is_byt
 -- lines of which none is left out
 abbrev pub AllKept : List (List ℕ) → Type 0
 AllKept [] = Unit {0}
-AllKept (line ∷ lines) = (verdict_on line ≡ Kept) × AllKept lines
+AllKept (line ∷ lines) = (verdict_on line ≡ Ok tt) × AllKept lines
 
 -- lines, each with its end
 unfoldable pub ended : List (List ℕ) → List ℕ

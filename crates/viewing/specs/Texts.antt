@@ -1,39 +1,33 @@
 -- Lines of UTF-8, as the viewer takes them back: "writes a list again, each name and a zero byte".
-use Rattle.std.specs.Prelude.{ℕ, zero, suc, ◌+◌, ◌≤◌, min, Bool, true, false, cond, not, List, [], ◌∷◌, ◌++◌, eqb, ltb, leb, length, take, drop}
+use Rattle.std.specs.Prelude.{ℕ, zero, suc, ◌+◌, min, cond, not, List, [], ◌∷◌, ◌++◌, eqb, ltb, leb, length, drop, is_some, Result, Ok, Err, is_ok, ⊤}
 use Rattle.paper.specs.Refusals.{refusal_number}
 use Rattle.paper.specs.Rows.{refuse}
 use Rattle.paper.specs.declared.Refusal.TheVariants.{NoPartner}
 use Rattle.lists.specs.Bytes.{is_byte, is_zero, laid}
 use Rattle.lists.specs.Places.{place}
-use Rattle.lists.specs.Lines.{LF, lines_in}
+use Rattle.lists.specs.Lines.{LF, lines_in, first_line}
 use Rattle.lines.specs.Decimal.{FIELD_MAX, field}
 use Rattle.lines.specs.Lines.{SPACE, REFUSED_MAX, refused_line}
-use Rattle.codepage.specs.Names.{name_of, is_some, result_of}
-use Rattle.viewing.specs.declared.Verdict.{Verdict}
-use Rattle.viewing.specs.declared.Verdict.TheVariants.{Kept, Empty, HasZero, Unnamed}
+use Rattle.codepage.specs.Names.{name_of, result_of}
+use Rattle.viewing.specs.declared.LeftOut.{LeftOut}
+use Rattle.viewing.specs.declared.LeftOut.TheVariants.{Empty, HasZero, Unnamed}
 use Rattle.viewing.specs.declared.Line.{Line}
-use Rattle.viewing.specs.declared.Gathered.{Gathered}
-use Rattle.viewing.specs.declared.Gathered.TheVariants.{Bytes, TooLong, NoRoom}
+use Rattle.viewing.specs.declared.NotGathered.{NotGathered}
+use Rattle.viewing.specs.declared.NotGathered.TheVariants.{TooLong, NoRoom}
 
 -- ---- line by line
 
 -- "a line that can't be converted, an empty one and one with a zero byte are left out"
-unfoldable pub verdict_on : List ℕ → Verdict
+unfoldable pub verdict_on : List ℕ → Result ⊤ LeftOut
 verdict_on line =
-    refuse Empty (eqb (length line) 0)
-    (refuse HasZero (ltb (place is_zero line) (length line))
-    (refuse Unnamed (not (is_some (name_of line)))
-    Kept))
-
-abbrev pub is_kept : Verdict → Bool
-is_kept Kept = true
-is_kept Empty = false
-is_kept HasZero = false
-is_kept Unnamed = false
+    refuse (Err Empty) (eqb (length line) 0)
+    (refuse (Err HasZero) (ltb (place is_zero line) (length line))
+    (refuse (Err Unnamed) (not (is_some (name_of line)))
+    (Ok tt)))
 
 -- "each name and a zero byte"
 unfoldable pub entry_of : List ℕ → List ℕ
-entry_of line = cond (is_kept (verdict_on line)) (result_of (name_of line) ++ (0 ∷ [])) []
+entry_of line = cond (is_ok (verdict_on line)) (result_of (name_of line) ++ (0 ∷ [])) []
 
 unfoldable pub entries_of : List (List ℕ) → List ℕ
 entries_of [] = []
@@ -47,25 +41,18 @@ TEXT_MAX = 65536
 
 -- "is said on standard error and nothing is written". A text's list has at most one byte more than the text: with less room than any can
 -- need nothing is written either
-unfoldable pub gathered_for : List ℕ → List ℕ → Gathered
+unfoldable pub gathered_for : List ℕ → List ℕ → Result ℕ NotGathered
 gathered_for text out =
-    refuse TooLong (ltb TEXT_MAX (length text))
-    (refuse NoRoom (leb (length out) TEXT_MAX)
-    (Bytes (length (entries_of (lines_in text)))))
+    refuse (Err TooLong) (ltb TEXT_MAX (length text))
+    (refuse (Err NoRoom) (leb (length out) TEXT_MAX)
+    (Ok (length (entries_of (lines_in text)))))
 
-abbrev pub buffer_by : Gathered → List ℕ → List ℕ → List ℕ
-buffer_by (Bytes n) list out = laid out 0 list
-buffer_by TooLong list out = out
-buffer_by NoRoom list out = out
+abbrev pub buffer_by : Result ℕ NotGathered → List ℕ → List ℕ → List ℕ
+buffer_by (Ok n) list out = laid out 0 list
+buffer_by (Err why) list out = out
 
 unfoldable pub gathered_in : List ℕ → List ℕ → List ℕ
 gathered_in text out = buffer_by (gathered_for text out) (entries_of (lines_in text)) out
-
--- what is answered fits
-abbrev pub GatheredFits : ℕ → Gathered → Type 0
-GatheredFits room (Bytes n) = n ≤ room
-GatheredFits room TooLong = Unit {0}
-GatheredFits room NoRoom = Unit {0}
 
 -- ---- what is said of a line that is left out
 
@@ -80,8 +67,7 @@ IS_LEFT_OUT =
     105 ∷ 115 ∷ 32 ∷ 108 ∷ 101 ∷ 102 ∷ 116 ∷ 32 ∷ 111 ∷ 117 ∷ 116 ∷ 58 ∷ 32 ∷ []
 
 -- "it is empty", "it has a zero byte", or the refusal
-unfoldable pub reason_for : Verdict → List ℕ
-reason_for Kept = []
+unfoldable pub reason_for : LeftOut → List ℕ
 reason_for Empty =
     105 ∷ 116 ∷ 32 ∷ 105 ∷ 115 ∷ 32 ∷ 101 ∷ 109 ∷ 112 ∷ 116 ∷ 121 ∷ 10 ∷ []
 reason_for HasZero =
@@ -93,8 +79,9 @@ abbrev pub SAY_MAX : ℕ
 SAY_MAX = 26 + FIELD_MAX + REFUSED_MAX
 
 -- lines are counted from 1. Nothing is said of one that is kept
-unfoldable pub left_out_line : ℕ → Verdict → List ℕ
-left_out_line k verdict = cond (is_kept verdict) [] (((VIEWER_LINE ++ field k SPACE) ++ IS_LEFT_OUT) ++ reason_for verdict)
+unfoldable pub left_out_line : ℕ → Result ⊤ LeftOut → List ℕ
+left_out_line k (Ok kept) = []
+left_out_line k (Err why) = ((VIEWER_LINE ++ field k SPACE) ++ IS_LEFT_OUT) ++ reason_for why
 
 -- ", and said on standard error": of all lines, from the k-th on
 unfoldable pub left_out : ℕ → List (List ℕ) → List ℕ
@@ -102,10 +89,6 @@ left_out k [] = []
 left_out k (line ∷ lines) = left_out_line k (verdict_on line) ++ left_out (suc k) lines
 
 -- ---- at a place of a text
-
--- the bytes before the first LF, if there is one
-unfoldable pub first_line : List ℕ → List ℕ
-first_line text = take (place (is_byte LF) text) text
 
 -- the verdict on the line that begins there, and where the next begins
 unfoldable pub line_at : List ℕ → ℕ → Line

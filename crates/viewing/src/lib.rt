@@ -7,18 +7,18 @@
 // out. `asked` tells which of the two a word asks for.
 #![tactic(auto)]
 
-ghost use Rattle.std.specs.Prelude.{◌≡◌, true, ◌+◌, ◌*◌, ◌≤◌, ◌<◌, length};
+ghost use Rattle.std.specs.Prelude.{◌≡◌, true, ◌+◌, ◌*◌, ◌^◌, ◌≤◌, ◌<◌, length, IfOk};
 ghost use Rattle.lists.specs.Bytes.{laid};
 ghost use Rattle.lists.specs.Lines.{lines_in};
 ghost use Rattle.lines.specs.Lines.{REFUSED_MAX};
+ghost use Rattle.lines.specs.Pen.{Writes};
 ghost use Rattle.listeners.specs.Listeners.{names, good_list};
 ghost use Rattle.viewing.specs.Ways.{way_by};
-ghost use Rattle.viewing.specs.Lists.{LINES_MAX, name_line, name_lines, shown_for, shown_in, ShownFits};
-ghost use Rattle.viewing.specs.Texts.{TEXT_MAX, verdict_on, is_kept, entry_of, entries_of, gathered_for, gathered_in, GatheredFits};
+ghost use Rattle.viewing.specs.Lists.{LINES_MAX, name_line, name_lines, shown_for, shown_in};
+ghost use Rattle.viewing.specs.Texts.{TEXT_MAX, verdict_on, entry_of, entries_of, gathered_for, gathered_in};
 ghost use Rattle.viewing.specs.Texts.{SAY_MAX, reason_for, left_out_line, line_at};
 
-use codepage::Converted;
-use lines::{FIELD_MAX, REFUSED_MAX};
+use lines::{FIELD_MAX, Pen, REFUSED_MAX};
 use paper::{LIST_MAX, Refusal};
 
 // The most bytes of all lines of a list: for each of its bytes at most six.
@@ -40,35 +40,29 @@ pub enum Way {
     ToUtf8,
     // Lines of UTF-8 as a list.
     ToList,
-    Unknown,
 }
 
-// What comes of a list.
+// Why a list isn't shown.
 #[derive(Clone, Copy)]
-pub enum Shown {
-    // Its lines stand at the front of the buffer, so many bytes.
-    Lines(usize),
+pub enum NotShown {
     // It is outside its rule.
     Outside,
     // The buffer is shorter than `LINES_MAX`.
     NoRoom,
 }
 
-// What comes of a text.
+// Why the list of a text isn't gathered.
 #[derive(Clone, Copy)]
-pub enum Gathered {
-    // Its list stands at the front of the buffer, so many bytes.
-    Bytes(usize),
+pub enum NotGathered {
     // It has more than `TEXT_MAX` bytes.
     TooLong,
     // The buffer has no more than `TEXT_MAX` bytes.
     NoRoom,
 }
 
-// Whether a line is a name of the list, or why it is left out.
+// Why a line is left out.
 #[derive(Clone, Copy)]
-pub enum Verdict {
-    Kept,
+pub enum LeftOut {
     Empty,
     HasZero,
     // It isn't well formed, or a code point has no byte: 19.
@@ -78,35 +72,36 @@ pub enum Verdict {
 // A line of a text.
 #[derive(Clone, Copy)]
 pub struct Line {
-    pub verdict: Verdict,
+    // Whether it is a name of the list.
+    pub verdict: Result<(), LeftOut>,
     // Where the next line begins.
     pub next: usize,
 }
 
 // ---- what is asked for
 
-// The way that a word asks for: `utf8` or `1252`.
-pub fn asked(word: &[u8]) -> Way
+// The way that a word asks for, if it does: `utf8` or `1252`.
+pub fn asked(word: &[u8]) -> Option<Way>
     ensures { result ≡ way_by word.now }
 {
-    if check::same(word, b"utf8") {
-        return Way::ToUtf8;
+    if word == b"utf8".as_slice() {
+        return Some(Way::ToUtf8);
     }
-    if check::same(word, b"1252") {
-        return Way::ToList;
+    if word == b"1252".as_slice() {
+        return Some(Way::ToList);
     }
-    Way::Unknown
+    None
 }
 
 // ---- a list as lines
 
-// The line of a name, from a place on. Answers its length.
+// The line of a name, from a place on. Answers its length. No pen: `codepage` lays into the part of the buffer that is lent.
 fn name_line(name: &[u8], out: &mut [u8], at: usize) -> usize
     requires { (0 < length name.now) × (at + 6 * (length name.now + 1) ≤ length out.old) }
     ensures value { (result ≡ length (name_line name.now)) × (result ≤ 6 * (length name.now + 1)) }
     ensures out_after { out.new ≡ laid out.old at (name_line name.now) }
 {
-    let Converted::Length(n) = codepage::to_utf8(name, &mut out[at..]) else {
+    let Ok(n) = codepage::to_utf8(name, &mut out[at..]) else {
         return lines::refused(out, at, paper::refusal_number(Refusal::NoPartner));
     };
     out[at + n] = LF;
@@ -119,70 +114,60 @@ fn lay_lines(list: &[u8], out: &mut [u8]) -> usize
     ensures value { (result ≡ length (name_lines (names list.now))) × (result ≤ LINES_MAX) }
     ensures out_after { out.new ≡ laid out.old 0 (name_lines (names list.now)) }
 {
-    let mut at = 0;
+    let mut rest = list;
     let mut used = 0;
-    while at < list.len() {
-        let end = at + lists::first_zero(&list[at..]);
-        used += name_line(&list[at..end], out, used);
-        at = end + 1;
+    // Names have varying lengths.
+    while rest.len() != 0 {
+        let end = lists::first_zero(rest);
+        used += name_line(&rest[..end], out, used);
+        rest = &rest[end + 1..];
     }
     used
 }
 
-// Shows a list: a line for each of its names.
-pub fn show(list: &[u8], out: &mut [u8]) -> Shown
-    ensures value { (result ≡ shown_for list.now out.old) × ShownFits LINES_MAX result }
+// Shows a list: a line for each of its names. Answers how many bytes stand at the front of the buffer.
+pub fn show(list: &[u8], out: &mut [u8]) -> Result<usize, NotShown>
+    ensures value { (result ≡ shown_for list.now out.old) × IfOk result (λ n. n ≤ LINES_MAX) }
     ensures out_after { out.new ≡ shown_in list.now out.old }
 {
     if out.len() < LINES_MAX {
-        return Shown::NoRoom;
+        return Err(NotShown::NoRoom);
     }
     if !listeners::good(list) {
-        return Shown::Outside;
+        return Err(NotShown::Outside);
     }
-    Shown::Lines(lay_lines(list, out))
+    Ok(lay_lines(list, out))
 }
 
 // ---- lines as a list
 
-// The verdict on a line.
-fn judge(line: &[u8]) -> Verdict
+// Whether a line is a name of the list, or why it is left out.
+fn judge(line: &[u8]) -> Result<(), LeftOut>
     ensures { result ≡ verdict_on line.now }
 {
     if line.len() == 0 {
-        return Verdict::Empty;
+        return Err(LeftOut::Empty);
     }
     if lists::first_zero(line) < line.len() {
-        return Verdict::HasZero;
+        return Err(LeftOut::HasZero);
     }
     if !codepage::has_name(line) {
-        return Verdict::Unnamed;
+        return Err(LeftOut::Unnamed);
     }
-    Verdict::Kept
+    Ok(())
 }
 
-// Whether a verdict keeps its line.
-fn keeps(verdict: Verdict) -> bool
-    ensures { result ≡ is_kept verdict }
-{
-    match verdict {
-        Verdict::Kept => true,
-        Verdict::Empty => false,
-        Verdict::HasZero => false,
-        Verdict::Unnamed => false,
-    }
-}
-
-// The name of a line that is kept and its zero byte, from a place on. Answers how many bytes there are.
+// The name of a line that is kept and its zero byte, from a place on. Answers how many bytes there are. No pen: `codepage` lays into the
+// part of the buffer that is lent.
 fn entry(line: &[u8], out: &mut [u8], at: usize) -> usize
     requires { at + length line.now < length out.old }
     ensures value { (result ≡ length (entry_of line.now)) × (result ≤ length line.now + 1) }
     ensures out_after { out.new ≡ laid out.old at (entry_of line.now) }
 {
-    if !keeps(judge(line)) {
+    if judge(line).is_err() {
         return 0;
     }
-    let Converted::Length(n) = codepage::from_utf8(line, &mut out[at..]) else {
+    let Ok(n) = codepage::from_utf8(line, &mut out[at..]) else {
         return 0;
     };
     out[at + n] = 0;
@@ -195,28 +180,29 @@ fn lay_list(text: &[u8], out: &mut [u8]) -> usize
     ensures value { (result ≡ length (entries_of (lines_in text.now))) × (result ≤ length text.now + 1) }
     ensures out_after { out.new ≡ laid out.old 0 (entries_of (lines_in text.now)) }
 {
-    let mut at = 0;
+    let mut rest = text;
     let mut used = 0;
-    while at < text.len() {
-        let end = at + lists::first_of(&text[at..], LF);
-        used += entry(&text[at..end], out, used);
-        at = end + 1;
+    // Lines have varying lengths.
+    while rest.len() != 0 {
+        let (line, behind) = lists::first_line(rest);
+        used += entry(line, out, used);
+        rest = behind;
     }
     used
 }
 
-// Gathers the list of a text: each name and a zero byte.
-pub fn gather(text: &[u8], out: &mut [u8]) -> Gathered
-    ensures value { (result ≡ gathered_for text.now out.old) × GatheredFits (TEXT_MAX + 1) result }
+// Gathers the list of a text: each name and a zero byte. Answers how many bytes stand at the front of the buffer.
+pub fn gather(text: &[u8], out: &mut [u8]) -> Result<usize, NotGathered>
+    ensures value { (result ≡ gathered_for text.now out.old) × IfOk result (λ n. n ≤ TEXT_MAX + 1) }
     ensures out_after { out.new ≡ gathered_in text.now out.old }
 {
     if TEXT_MAX < text.len() {
-        return Gathered::TooLong;
+        return Err(NotGathered::TooLong);
     }
     if out.len() <= TEXT_MAX {
-        return Gathered::NoRoom;
+        return Err(NotGathered::NoRoom);
     }
-    Gathered::Bytes(lay_list(text, out))
+    Ok(lay_list(text, out))
 }
 
 // ---- what is left out
@@ -225,37 +211,38 @@ pub fn gather(text: &[u8], out: &mut [u8]) -> Gathered
 pub fn line_at(text: &[u8], at: usize) -> Line
     ensures { result ≡ line_at text.now at }
 {
-    let from = lists::lesser(at, text.len());
-    let end = from + lists::first_of(&text[from..], LF);
+    let from = at.min(text.len());
+    let (line, _) = lists::first_line(&text[from..]);
     Line {
-        verdict: judge(&text[from..end]),
-        next: end + 1,
+        verdict: judge(line),
+        next: from + line.len() + 1,
     }
 }
 
-// Why a line is left out, from a place on. Answers its length.
-fn reason(out: &mut [u8], at: usize, verdict: Verdict) -> usize
-    ensures value { (result ≡ length (reason_for verdict)) × (result ≤ REFUSED_MAX) }
-    ensures out_after { out.new ≡ laid out.old at (reason_for verdict) }
+// Why a line is left out.
+fn reason(pen: &mut Pen, why: LeftOut)
+    requires { pen.old.at + REFUSED_MAX < 2 ^ 64 }
+    ensures { Writes pen.old pen.new (reason_for why) REFUSED_MAX }
 {
-    match verdict {
-        Verdict::Kept => 0,
-        Verdict::Empty => lines::text(out, at, b"it is empty\n"),
-        Verdict::HasZero => lines::text(out, at, b"it has a zero byte\n"),
-        Verdict::Unnamed => lines::refused(out, at, paper::refusal_number(Refusal::NoPartner)),
+    match why {
+        LeftOut::Empty => pen.text(b"it is empty\n"),
+        LeftOut::HasZero => pen.text(b"it has a zero byte\n"),
+        LeftOut::Unnamed => pen.refused(paper::refusal_number(Refusal::NoPartner)),
     }
 }
 
 // What is said of a line that is left out, at the front: its number, counted from 1, and why. Of one that is kept nothing is said.
-pub fn say(out: &mut [u8], number: u64, verdict: Verdict) -> usize
+pub fn say(out: &mut [u8], number: u64, verdict: Result<(), LeftOut>) -> usize
     ensures value { (result ≡ length (left_out_line number verdict)) × (result ≤ SAY_MAX) }
     ensures out_after { out.new ≡ laid out.old 0 (left_out_line number verdict) }
 {
-    if keeps(verdict) {
+    let Err(why) = verdict else {
         return 0;
-    }
-    let begun = lines::text(out, 0, b"viewer: line ");
-    let numbered = begun + lines::field(out, begun, number, b' ');
-    let worded = numbered + lines::text(out, numbered, b"is left out: ");
-    worded + reason(out, worded, verdict)
+    };
+    let mut pen = Pen { out, at: 0 };
+    pen.text(b"viewer: line ");
+    pen.field(number, b' ');
+    pen.text(b"is left out: ");
+    reason(&mut pen, why);
+    pen.at
 }

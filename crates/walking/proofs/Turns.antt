@@ -7,6 +7,7 @@ use Rattle.lists.proofs.Laid.{whole}
 use Rattle.lines.specs.Lines.{LINE_MAX, MESSAGE_LINE_MAX}
 use Rattle.records.specs.declared.Due.{Due}
 use Rattle.records.specs.declared.Due.TheVariants.{Read, Nothing}
+use Rattle.records.specs.Records.{found}
 use Rattle.records.specs.Walks.{Program, stay, walk_through, due_for, walked, ending, ended, turned}
 use Rattle.linking.specs.Linking.{CALL_MAX, STEP_MAX}
 use Rattle.walking.specs.declared.Job.{Job}
@@ -27,7 +28,7 @@ nothing_laid out = refl
 -- a walk over the input, with what is left of it at the front
 pub walk_turns : (p : Program Walk) (w : Walk) (input out : List ℕ) {r : Walked} {due : Due} {store' input' out' : List ℕ}
     → Walks (walk_through p (length out) w input) out r store' out'
-    → due ≡ due_for (p.extent (drop r.taken input)) → input' ≡ laid input 0 (drop r.taken input)
+    → due ≡ due_for (found (p.extent (drop r.taken input))) → input' ≡ laid input 0 (drop r.taken input)
     → Turns (walked p (length out) w input) input out (record { stand = record { kept = r.kept; had = length input - r.taken; due = due }; laid = r.laid }) store' input' out'
 unfolding walked
 walk_turns p w input out did due moved =

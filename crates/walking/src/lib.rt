@@ -7,9 +7,10 @@
 // reads, and a turn with nothing new is the end of the input. Both take anything, and neither refuses.
 #![tactic(auto)]
 
-ghost use Rattle.std.specs.Prelude.{◌≡◌, ℕ, ◌≤◌, List, length};
+ghost use Rattle.std.specs.Prelude.{◌≡◌, ℕ, ◌<◌, ◌≤◌, List, length, IfSome};
 ghost use Rattle.lists.specs.Bytes.{laid};
 ghost use Rattle.lines.specs.Lines.{LINE_MAX};
+ghost use Rattle.records.specs.Records.{found};
 ghost use Rattle.records.specs.Walks.{walk_through, turned, walked, ended};
 ghost use Rattle.client.specs.Client.{Whole};
 ghost use Rattle.walking.specs.declared.Job.TheVariants.{Client, Strict, Desk, Link};
@@ -38,7 +39,7 @@ pub enum Told {
     Totals,
 }
 
-// What a walk is for.
+// What a walk is for. A job is data: the definitions go over all jobs, so each step is a match on it and no closure.
 #[derive(Clone, Copy)]
 pub enum Job {
     // The client's step for each record.
@@ -92,9 +93,11 @@ struct Walked {
     laid: usize,
 }
 
-// How many bytes the record at the front has, or 0 where no whole record stands there.
-fn extent_for(job: Job, input: &[u8]) -> usize
-    ensures { result ≡ extent_for job input.now }
+// How many bytes the record at the front has, where a whole record stands there.
+#[tactic(auto, unfolding(crate::specs::Walking::extent_for))]
+fn extent_for(job: Job, input: &[u8]) -> Option<usize>
+    ensures value { result ≡ found (extent_for job input.now) }
+    ensures within { IfSome result (λ n. (0 < n) × (n ≤ length input.now)) }
 {
     match job {
         Job::Client(_) => records::whole(input),
@@ -105,67 +108,67 @@ fn extent_for(job: Job, input: &[u8]) -> usize
 }
 
 // The most bytes of a record's text.
+#[tactic(auto, unfolding(crate::specs::Walking::room_told, lines::specs::Lines::MESSAGE_LINE_MAX, paper::specs::Sizes::MESSAGE_MAX))]
 fn room_told(told: Told) -> usize
     ensures { result ≡ room_told told }
 {
     match told {
-        Told::Lines => LINE_MAX,
         Told::Messages => MESSAGE_LINE_MAX,
-        Told::Moves => LINE_MAX,
-        Told::Totals => LINE_MAX,
+        Told::Lines | Told::Moves | Told::Totals => LINE_MAX,
     }
 }
 
+#[tactic(auto, unfolding(crate::specs::Walking::room_for, linking::specs::Linking::STEP_MAX, linking::specs::Linking::CALL_MAX, lines::specs::Lines::MESSAGE_LINE_MAX, paper::specs::Sizes::MESSAGE_MAX))]
 fn room_for(job: Job) -> usize
     ensures { result ≡ room_for job }
 {
     match job {
         Job::Client(told) => room_told(told),
-        Job::Strict { from_server: _ } => LINE_MAX,
-        Job::Desk => LINE_MAX,
+        Job::Strict { .. } | Job::Desk => LINE_MAX,
         Job::Link => STEP_MAX,
     }
 }
 
 // What stands before the first record.
+#[tactic(auto, unfolding(crate::specs::Walking::first_told, lists::specs::Bytes::laid))]
 fn first_told(told: Told, out: &mut [u8]) -> usize
     ensures value { (result ≡ length (first_told told)) × (result ≤ LINE_MAX) }
     ensures out_after { out.new ≡ laid out.old 0 (first_told told) }
 {
     match told {
-        Told::Lines => lines::header(out),
+        Told::Lines | Told::Moves => lines::header(out),
         Told::Messages => 0,
-        Told::Moves => lines::header(out),
         Told::Totals => lines::totals_header(out),
     }
 }
 
+#[tactic(auto, unfolding(crate::specs::Walking::first_for))]
 fn first_for(job: Job, out: &mut [u8]) -> usize
     ensures value { (result ≡ length (first_for job)) × (result ≤ LINE_MAX) }
     ensures out_after { out.new ≡ laid out.old 0 (first_for job) }
 {
     match job {
         Job::Client(told) => first_told(told, out),
-        Job::Strict { from_server: _ } => lines::reading_header(out),
+        Job::Strict { .. } => lines::reading_header(out),
         Job::Desk => saying::desk_header(out),
         Job::Link => saying::link_header(out),
     }
 }
 
 // The text of a last record that is cut short.
+#[tactic(auto, unfolding(crate::specs::Walking::cut_told, lists::specs::Bytes::laid))]
 fn cut_told(told: Told, out: &mut [u8], place: u64) -> usize
     ensures value { (result ≡ length (cut_told told place)) × (result ≤ LINE_MAX) }
     ensures out_after { out.new ≡ laid out.old 0 (cut_told told place) }
 {
     match told {
-        Told::Lines => lines::cut_line(out, place),
         Told::Messages => 0,
-        Told::Moves => lines::cut_line(out, place),
-        Told::Totals => lines::cut_line(out, place),
+        Told::Lines | Told::Moves | Told::Totals => lines::cut_line(out, place),
     }
 }
 
 // After a record that is none nothing more is written.
+#[tactic(auto, unfolding(crate::specs::Walking::cut_unless, lists::specs::Bytes::laid))]
 fn cut_unless(ended: bool, out: &mut [u8], place: u64) -> usize
     ensures value { (result ≡ length (cut_unless ended place)) × (result ≤ LINE_MAX) }
     ensures out_after { out.new ≡ laid out.old 0 (cut_unless ended place) }
@@ -176,39 +179,36 @@ fn cut_unless(ended: bool, out: &mut [u8], place: u64) -> usize
     lines::cut_line(out, place)
 }
 
+#[tactic(auto, unfolding(crate::specs::Walking::cut_for))]
 fn cut_for(job: Job, out: &mut [u8], ended: bool, place: u64) -> usize
     ensures value { (result ≡ length (cut_for job ended place)) × (result ≤ LINE_MAX) }
     ensures out_after { out.new ≡ laid out.old 0 (cut_for job ended place) }
 {
     match job {
         Job::Client(told) => cut_told(told, out, place),
-        Job::Strict { from_server: _ } => lines::cut_line(out, place),
-        Job::Desk => lines::cut_line(out, place),
+        Job::Strict { .. } | Job::Desk => lines::cut_line(out, place),
         Job::Link => cut_unless(ended, out, place),
     }
 }
 
 // The bytes of the store that a job is lent: one end's, or both ends'.
+#[tactic(auto, unfolding(crate::specs::Walking::store_for, paper::specs::Sizes::STORE, paper::specs::Sizes::PARTS, paper::specs::Sizes::PART))]
 pub fn store_for(job: Job) -> usize
     ensures { result ≡ store_for job }
 {
     match job {
-        Job::Client(_) => STORE,
-        Job::Strict { from_server: _ } => STORE,
-        Job::Desk => STORE,
+        Job::Client(_) | Job::Strict { .. } | Job::Desk => STORE,
         Job::Link => 2 * STORE,
     }
 }
 
 // The ends start.
+#[tactic(auto, unfolding(crate::specs::Walking::started_for))]
 fn start_for(job: Job, store: &mut [u8])
     ensures { store.new ≡ started_for job store.old }
 {
     match job {
-        Job::Client(_) => {
-            client::start(store);
-        }
-        Job::Strict { from_server: _ } => {
+        Job::Client(_) | Job::Strict { .. } => {
             client::start(store);
         }
         Job::Desk => {
@@ -246,28 +246,19 @@ pub fn begin(job: Job, store: &mut [u8], out: &mut [u8]) -> Turned
 }
 
 // Whether local closes stand among the records.
+#[tactic(auto, unfolding(crate::specs::Walking::has_closes))]
 fn has_closes(told: Told) -> bool
     ensures { result ≡ has_closes told }
 {
-    match told {
-        Told::Lines => false,
-        Told::Messages => false,
-        Told::Moves => true,
-        Told::Totals => true,
-    }
+    matches!(told, Told::Moves | Told::Totals)
 }
 
 // Whether the record is a local close.
+#[tactic(auto, unfolding(crate::specs::Walking::is_close))]
 fn is_close(told: Told, bytes: &[u8]) -> bool
     ensures { result ≡ is_close told bytes.now }
 {
-    if !has_closes(told) {
-        return false;
-    }
-    if bytes.len() == 0 {
-        return false;
-    }
-    bytes[0] == 0
+    has_closes(told) && bytes.first() == Some(&0)
 }
 
 // The client's step for a record.
@@ -284,6 +275,7 @@ fn answered(told: Told, table: Table, store: &mut [u8], list: &[u8], bytes: &[u8
 }
 
 // The text of a step, at the front of the buffer.
+#[tactic(auto, unfolding(crate::specs::Walking::text_for, crate::specs::Walking::room_told))]
 fn text_for(told: Told, out: &mut [u8], place: u64, received: Received, store: &[u8]) -> usize
     ensures value { (result ≡ length (text_for told place received store.now)) × (result ≤ room_told told) }
     ensures out_after { out.new ≡ laid out.old 0 (text_for told place received store.now) }
@@ -291,9 +283,8 @@ fn text_for(told: Told, out: &mut [u8], place: u64, received: Received, store: &
     let answer = received.answer;
     let totals = received.table.totals;
     match told {
-        Told::Lines => lines::line(out, place, answer, received.sent),
+        Told::Lines | Told::Moves => lines::line(out, place, answer, received.sent),
         Told::Messages => handing::of_answer(out, place, received.place, store, answer),
-        Told::Moves => lines::line(out, place, answer, received.sent),
         Told::Totals => lines::totals_line(out, place, totals.channels, totals.awaited),
     }
 }
@@ -310,18 +301,14 @@ fn step_told(
     ensures { Steps (program (Client told) list.now) (walk_of kept store.old)
         bytes.now out.old result store.new out.new }
 {
-    let table = kept.table;
-    let from = lists::lesser(LENGTH, bytes.len());
-    let received = answered(told, table, store, list, &bytes[from..]);
+    let from = LENGTH.min(bytes.len());
+    let received = answered(told, kept.table, store, list, &bytes[from..]);
     let laid = text_for(told, out, kept.place, received, store);
-    let table = received.table;
-    let shore = kept.shore;
     Stepped {
         kept: Kept {
-            table,
-            shore,
-            ended: kept.ended,
-            place: std::num::wrapping_add_u64(kept.place, 1),
+            table: received.table,
+            place: kept.place.wrapping_add(1),
+            ..kept
         },
         laid,
     }
@@ -332,17 +319,13 @@ fn step_read(from_server: bool, kept: Kept, bytes: &[u8], out: &mut [u8]) -> Ste
     ensures { (list store : List ℕ) → Steps (program (Strict from_server) list) (walk_of kept store)
         bytes.now out.old result store out.new }
 {
-    let from = lists::lesser(LENGTH, bytes.len());
+    let from = LENGTH.min(bytes.len());
     let refusal = reading::verdict(reading::read_strict(&bytes[from..], from_server));
     let laid = lines::reading_line(out, kept.place, refusal);
-    let table = kept.table;
-    let shore = kept.shore;
     Stepped {
         kept: Kept {
-            table,
-            shore,
-            ended: kept.ended,
-            place: std::num::wrapping_add_u64(kept.place, 1),
+            place: kept.place.wrapping_add(1),
+            ..kept
         },
         laid,
     }
@@ -354,18 +337,13 @@ fn step_desk(kept: Kept, store: &mut [u8], bytes: &[u8], out: &mut [u8]) -> Step
         bytes.now out.old result store.new out.new }
 {
     let mut buffer = [0u8; PDU_MAX];
-    let shore = kept.shore;
-    let given = hosting::hosted(shore, store, bytes, &mut buffer);
-    let said = given.said;
-    let laid = saying::desk_line(out, kept.place, said, given.sent);
-    let table = kept.table;
-    let shore = given.shore;
+    let given = hosting::hosted(kept.shore, store, bytes, &mut buffer);
+    let laid = saying::desk_line(out, kept.place, given.said, given.sent);
     Stepped {
         kept: Kept {
-            table,
-            shore,
-            ended: kept.ended,
-            place: std::num::wrapping_add_u64(kept.place, 1),
+            shore: given.shore,
+            place: kept.place.wrapping_add(1),
+            ..kept
         },
         laid,
     }
@@ -380,19 +358,18 @@ fn step_link(kept: Kept, store: &mut [u8], list: &[u8], bytes: &[u8], out: &mut 
     if kept.ended {
         return Stepped { kept, laid: 0 };
     }
-    let panel = kept.table;
-    let shore = kept.shore;
-    let stepped = linking::step(Ends { panel, shore }, store, list, bytes, kept.place, out);
+    let ends = Ends {
+        panel: kept.table,
+        shore: kept.shore,
+    };
+    let stepped = linking::step(ends, store, list, bytes, kept.place, out);
     let crossed = stepped.crossed;
-    let ends = crossed.ends;
-    let table = ends.panel;
-    let shore = ends.shore;
     Stepped {
         kept: Kept {
-            table,
-            shore,
+            table: crossed.ends.panel,
+            shore: crossed.ends.shore,
             ended: stepped.bad,
-            place: std::num::wrapping_add_u64(kept.place, 1),
+            place: kept.place.wrapping_add(1),
         },
         laid: crossed.laid,
     }
@@ -429,11 +406,11 @@ fn walk(job: Job, kept: Kept, store: &mut [u8], list: &[u8], input: &[u8], out: 
     let mut next = kept;
     let mut at = 0;
     let mut used = 0;
+    // A record has the extent that its job gives it, and its text takes room: no loop over a range.
     while room <= out.len() - used {
-        let n = extent_for(job, &input[at..]);
-        if n == 0 {
+        let Some(n) = extent_for(job, &input[at..]) else {
             break;
-        }
+        };
         let end = at + n;
         let stepped = step(job, next, store, list, &input[at..end], &mut out[used..]);
         next = stepped.kept;

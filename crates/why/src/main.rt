@@ -6,14 +6,12 @@
 // and the text of the line are the work of `cause`.
 #![tactic(auto)]
 
-ghost use Rattle.std.specs.Prelude.{◌≤◌, ◌≡◌, length};
-ghost use Rattle.cause.specs.Why.{WHY_MAX};
-
-use cause::{Said, Sought, WHY_MAX};
-use files::Filled;
+use cause::{NoPlace, Said, WHY_MAX};
+use files::Failed;
 use paper::STORE;
 use records::RECORD_MAX;
 use std::io::Read;
+use std::rt::Env;
 
 // The bytes of the input buffer: room for two records of the greatest length.
 const INPUT: usize = 2 * RECORD_MAX;
@@ -22,86 +20,58 @@ const INPUT: usize = 2 * RECORD_MAX;
 const WORD: usize = 131072;
 
 // Writes the line of what is said.
-fn say(rt: &(impl Print + Eprint), said: Said, out: &mut [u8])
-    requires { WHY_MAX ≤ length out.old }
-    ensures { length out.new ≡ length out.old }
-{
-    let laid = cause::say(out, said);
-    files::write(rt, &out[..laid]);
-}
-
-// Writes the line of what is said, if anything is. Answers whether.
-fn is_said(rt: &(impl Print + Eprint), said: Said, out: &mut [u8]) -> bool
-    requires { WHY_MAX ≤ length out.old }
-    ensures { length out.new ≡ length out.old }
-{
-    if let Said::NotYet = said {
-        return false;
-    }
-    say(rt, said, out);
-    true
+fn say(rt: &(impl Print + Eprint), said: Option<Said>) -> Result<(), Failed> {
+    let mut out = [0u8; WHY_MAX];
+    let laid = cause::say(&mut out, said);
+    files::write(rt, &out[..laid])
 }
 
 // Goes through the input read by read, until something is said of the place or the input ends.
-fn search<R: Read>(
-    rt: &(impl Print + Eprint),
-    reader: &mut R,
-    place: u64,
-    store: &mut [u8],
-    buffer: &mut [u8],
-    out: &mut [u8],
-)
-    requires { WHY_MAX ≤ length out.old }
-    ensures { length out.new ≡ length out.old }
-{
-    let mut stand = cause::begin(store);
+fn search<R: Read>(rt: &(impl Print + Eprint), reader: &mut R, place: u64) -> Result<(), Failed> {
+    let mut store = [0u8; STORE];
+    let mut buffer = [0u8; INPUT];
+    let mut stand = cause::begin(&mut store);
+    // A loop shared with the other programs that read so, over a closure, has as many lines at each caller.
     // A proved loop has to end, and nothing says that an input does: a count that no run uses up.
-    let mut reads = u64::MAX;
-    while 0 < reads {
-        reads -= 1;
-        let course = stand.course;
-        let said = course.said;
-        if is_said(rt, said, out) {
-            return;
+    for _ in 0..u64::MAX {
+        let said = stand.course.said;
+        if said.is_some() {
+            return say(rt, said);
         }
-        let Filled::To(end) = files::fill(rt, reader, b"standard input", buffer, stand.had) else {
-            return;
-        };
+        let end = files::fill(rt, reader, b"standard input", &mut buffer, stand.had)?;
         if end == stand.had {
-            say(rt, said, out);
-            return;
+            return say(rt, said);
         }
-        stand = cause::turn(place, course, store, b"PUMP\0", &mut buffer[..end]);
+        let input = &mut buffer[..end];
+        stand = cause::turn(place, stand.course, &mut store, b"PUMP\0", input);
+    }
+    Ok(())
+}
+
+// What is sought, by the program's one argument.
+fn asked(rt: &impl Env) -> Result<u64, NoPlace> {
+    if files::arguments(rt) != 1 {
+        return Err(NoPlace::NoDigits);
+    }
+    let mut word = [0u8; WORD];
+    match files::argument(rt, 1, &mut word) {
+        Some(n) => cause::sought_in(&word[..n]),
+        None => Err(NoPlace::NoDigits),
     }
 }
 
 fn main(rt: HostRuntime) {
-    if files::arguments(&rt) == 1 {
-        let mut word = [0u8; WORD];
-        let n = files::argument(&rt, 1, &mut word);
-        let sought = cause::sought_in(&word[..n]);
-        let mut out = [0u8; WHY_MAX];
-        if let Sought::Place(place) = sought {
-            let mut store = [0u8; STORE];
-            let mut buffer = [0u8; INPUT];
-            search(
-                &rt,
-                &mut rt.reader(),
-                place,
-                &mut store,
-                &mut buffer,
-                &mut out,
-            );
-            return;
+    match asked(&rt) {
+        Ok(place) => {
+            let _ = search(&rt, &mut rt.reader(), place);
         }
         // No input has it.
-        if let Sought::Beyond = sought {
-            say(&rt, Said::NotYet, &mut out);
-            return;
+        Err(NoPlace::Beyond) => {
+            let _ = say(&rt, None);
         }
+        Err(NoPlace::NoDigits) => files::complain(
+            &rt,
+            b"why: call it as `why PLACE`, a place from 0 on in digits, with the walker's input on standard input\n",
+        ),
     }
-    files::complain(
-        &rt,
-        b"why: call it as `why PLACE`, a place from 0 on in digits, with the walker's input on standard input\n",
-    );
 }

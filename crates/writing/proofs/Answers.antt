@@ -1,5 +1,6 @@
 -- What every writer does with its judge's answer, once for all seven.
 -- Assumes nothing.
+use Rattle.std.specs.Prelude.{Result, Err, Ok}
 use mathlib.Core.Path.{◌≡◌, ◌∙◌}
 use mathlib.Core.Bool.{Bool}
 use mathlib.Core.List.{List}
@@ -11,23 +12,21 @@ use Rattle.reading.specs.declared.Charges.{Charges}
 use Rattle.laying.specs.Laying.{caps_request_bytes, buffer_after}
 use Rattle.laying.proofs.Lengths.{length_caps_request}
 use Rattle.writing.specs.Writing.{judged, written, outcome, request_length}
-use Rattle.writing.specs.declared.Written.{Written}
-use Rattle.writing.specs.declared.Written.TheVariants.{Length, Refused}
 
 -- the answer to the buffer's length, the values and the PDU's length is the PDU's answer
-pub answered : {bad b : Bool} (pdu out : List ℕ) {r : Written} {len : ℕ} → r ≡ judged (length out) b len → b ≡ bad
+pub answered : {bad b : Bool} (pdu out : List ℕ) {r : Result ℕ Refusal} {len : ℕ} → r ≡ judged (length out) b len → b ≡ bad
     → len ≡ length pdu → r ≡ written bad pdu out
 unfolding written
 answered pdu out e f g = e ∙ rw (f, g)
 
 -- not refused: the PDU is laid
-pub laid_so : (pdu out : List ℕ) {after : List ℕ} {r : Written} {n : ℕ} → r ≡ Length n → after ≡ laid out 0 pdu
+pub laid_so : (pdu out : List ℕ) {after : List ℕ} {r : Result ℕ Refusal} {n : ℕ} → r ≡ Ok n → after ≡ laid out 0 pdu
     → after ≡ buffer_after (outcome r) pdu out
 unfolding outcome buffer_after
 laid_so pdu out told h = rw told h
 
 -- refused: nothing is touched
-pub refused_so : (pdu out : List ℕ) {r : Written} {why : Refusal} → r ≡ Refused why → out ≡ buffer_after (outcome r) pdu out
+pub refused_so : (pdu out : List ℕ) {r : Result ℕ Refusal} {why : Refusal} → r ≡ Err why → out ≡ buffer_after (outcome r) pdu out
 unfolding outcome buffer_after
 refused_so pdu out told = rw told
 

@@ -1,13 +1,14 @@
 -- Two outcomes that a function's contract permits are equal: the result, and every byte of the buffer at exit.
 -- `Reads.Post` is the contract as the source states it, read as plain facts.
 -- Assumes nothing.
+use Rattle.std.specs.Prelude.{Result}
+use Rattle.paper.specs.declared.Refusal.{Refusal}
 use mathlib.Core.Path.{◌≡◌, sym, ◌∙◌}
 use mathlib.Core.List.{List}
 use Prim.Native.Nat.{ℕ}
 use Rattle.lists.proofs.Cases.{same}
 use Rattle.laying.specs.Laying.{buffer_after}
 use Rattle.writing.specs.Writing.{outcome}
-use Rattle.writing.specs.declared.Written.{Written}
 use Rattle.writing.proofs.write_create_request.Reads as write-create-request
 use Rattle.writing.proofs.write_create_response.Reads as write-create-response
 use Rattle.writing.proofs.write_data_first.Reads as write-data-first
@@ -17,7 +18,7 @@ use Rattle.writing.proofs.write_capabilities_request.Reads as write-capabilities
 use Rattle.writing.proofs.write_capabilities_response.Reads as write-capabilities-response
 
 -- the buffer is what the answer leaves of it
-written_one : (v : Written) (pdu out : List ℕ) {r r' : Written} {b b' : List ℕ}
+written_one : (v : Result ℕ Refusal) (pdu out : List ℕ) {r r' : Result ℕ Refusal} {b b' : List ℕ}
     → (r ≡ v) × (b ≡ buffer_after (outcome r) pdu out) → (r' ≡ v) × (b' ≡ buffer_after (outcome r') pdu out) → (r ≡ r') × (b ≡ b')
 written_one v pdu out p q =
     let e = same p.0 q.0 in

@@ -1,5 +1,6 @@
 -- Writing refuses with the first row that holds, and with none exactly if none does; a refusal leaves every byte of the buffer.
 -- Assumes nothing.
+use Rattle.std.specs.Prelude.{Result, Err, Ok}
 use Prim.Native.Nat.{ℕ}
 use mathlib.Core.Path.{◌≡◌, refl, ap}
 use mathlib.Core.Bool.{Bool, true, false, cond}
@@ -12,8 +13,6 @@ use Rattle.paper.specs.declared.Refusal.{Refusal}
 use Rattle.paper.specs.declared.Refusal.TheVariants.{BadCall, BadField, OverLimit}
 use Rattle.laying.specs.Laying.{buffer_after}
 use Rattle.writing.specs.Writing.{judged, written, outcome, writing_rows}
-use Rattle.writing.specs.declared.Written.{Written}
-use Rattle.writing.specs.declared.Written.TheVariants.{Length, Refused}
 
 pub writing_refusals :
     (bad : Bool) (pdu out : List ℕ) → outcome (written bad pdu out) ≡ comes_to (length pdu) (first_held (writing_rows bad pdu out))
@@ -22,7 +21,7 @@ writing_refusals bad pdu out = go (ltb (length out) PDU_MAX) bad (ltb PDU_MAX (l
   where
     go :
         (a b c : Bool)
-        → outcome (cond a (Refused BadCall) (cond b (Refused BadField) (cond c (Refused OverLimit) (Length (length pdu)))))
+        → outcome (cond a (Err BadCall) (cond b (Err BadField) (cond c (Err OverLimit) (Ok (length pdu)))))
         ≡ comes_to (length pdu) (cond a (refused_with BadCall) (cond b (refused_with BadField) (cond c (refused_with OverLimit) fine)))
     go true b c = refl
     go false true c = refl
@@ -30,6 +29,6 @@ writing_refusals bad pdu out = go (ltb (length out) PDU_MAX) bad (ltb PDU_MAX (l
     go false false false = refl
 
 pub writing_leaves :
-    (bad : Bool) (pdu out : List ℕ) (why : Refusal) → written bad pdu out ≡ Refused why → buffer_after (outcome (written bad pdu out)) pdu out ≡ out
+    (bad : Bool) (pdu out : List ℕ) (why : Refusal) → written bad pdu out ≡ Err why → buffer_after (outcome (written bad pdu out)) pdu out ≡ out
 unfolding outcome buffer_after
-writing_leaves bad pdu out why e = ap (λ (w : Written). buffer_after (outcome w) pdu out) e
+writing_leaves bad pdu out why e = ap (λ (w : Result ℕ Refusal). buffer_after (outcome w) pdu out) e

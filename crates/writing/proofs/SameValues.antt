@@ -1,6 +1,8 @@
 -- "What we write we read back as the same values": a PDU that isn't refused stands at the buffer's front, and what is laid there is
 -- the narrowest encoding of its values, which both readings answer.
 -- Assumes nothing.
+use Rattle.std.specs.Prelude.{Result, Err, Ok}
+use Rattle.paper.specs.declared.Refusal.{Refusal}
 use mathlib.Core.Path.{◌≡◌, refl, sym, ap, ◌∙◌}
 use mathlib.Core.Bool.{Bool, true, false, cond, not}
 use mathlib.Core.List.{List}
@@ -37,8 +39,6 @@ use Rattle.reading.specs.Reading.{bad_version}
 use Rattle.reading.proofs.Placed.{good_version}
 use Rattle.writing.specs.Writing.{judged, written, outcome, bad_request, all_zero, bad_capabilities}
 use Rattle.writing.specs.ReadBack.{ReadsBack, StrictBack}
-use Rattle.writing.specs.declared.Written.{Written}
-use Rattle.writing.specs.declared.Written.TheVariants.{Length, Refused}
 use Rattle.writing.proofs.write_create_request.Reads as create-request-contract
 use Rattle.writing.proofs.write_create_response.Reads as create-response-contract
 use Rattle.writing.proofs.write_data_first.Reads as data-first-contract
@@ -54,14 +54,14 @@ pub record Went (bad : Bool) (pdu after : List ℕ) (n : ℕ) : Type 0 where
   pub stands : take n after ≡ pdu
 
 pub went :
-    (bad : Bool) (pdu out after : List ℕ) (r : Written) (n : ℕ) → r ≡ written bad pdu out → after ≡ buffer_after (outcome r) pdu out → r ≡ Length n
+    (bad : Bool) (pdu out after : List ℕ) (r : Result ℕ Refusal) (n : ℕ) → r ≡ written bad pdu out → after ≡ buffer_after (outcome r) pdu out → r ≡ Ok n
     → Went bad pdu after n
 unfolding written judged outcome buffer_after
 went bad pdu out after r n e f g = go (ltb (length out) PDU_MAX) bad (ltb PDU_MAX (length pdu)) refl refl refl (sym e ∙ g)
   where
     go :
         (s t u : Bool) → ltb (length out) PDU_MAX ≡ s → bad ≡ t → ltb PDU_MAX (length pdu) ≡ u
-        → cond s (Refused BadCall) (cond t (Refused BadField) (cond u (Refused OverLimit) (Length (length pdu)))) ≡ Length n
+        → cond s (Err BadCall) (cond t (Err BadField) (cond u (Err OverLimit) (Ok (length pdu)))) ≡ Ok n
         → Went bad pdu after n
     go true t u p q w h = let z : ◌≡◌ {A = ℕ} 0 1 = cc in absurd (omega arith)
     go false true u p q w h = let z : ◌≡◌ {A = ℕ} 0 1 = cc in absurd (omega arith)
@@ -174,49 +174,49 @@ caps_request_good version charges f =
 
 -- an outcome that a contract permits
 on_contract :
-    (fromServer bad : Bool) (pdu : List ℕ) (v : Value) → ReadsBack fromServer bad pdu v → (out after : List ℕ) (r : Written) (n : ℕ)
-    → r ≡ written bad pdu out → after ≡ buffer_after (outcome r) pdu out → r ≡ Length n → read_as fromServer (take n after) ≡ values v
+    (fromServer bad : Bool) (pdu : List ℕ) (v : Value) → ReadsBack fromServer bad pdu v → (out after : List ℕ) (r : Result ℕ Refusal) (n : ℕ)
+    → r ≡ written bad pdu out → after ≡ buffer_after (outcome r) pdu out → r ≡ Ok n → read_as fromServer (take n after) ≡ values v
 on_contract fromServer bad pdu v t out after r n e f g = rw (f, e) (t out n (sym e ∙ g))
 
 pub close_back :
-    (κs : _) (a : _) (r : _) (s : _) (n : ℕ) (fromServer : Bool) → close-contract.Post κs a r s → r ≡ Length n
+    (κs : _) (a : _) (r : _) (s : _) (n : ℕ) (fromServer : Bool) → close-contract.Post κs a r s → r ≡ Ok n
     → a.1.0 < NUMBERS → read_as fromServer (take n s.0.now) ≡ values (close a.1.0)
 close_back κs a r s n fromServer p g h =
     on_contract _ _ _ _ (reads_back _ _ _ _ (close_good fromServer a.1.0 h)) _ _ r n p.0 p.1 g
 
 pub data_back :
-    (κs : _) (a : _) (r : _) (s : _) (n : ℕ) (fromServer : Bool) → data-contract.Post κs a r s → r ≡ Length n
+    (κs : _) (a : _) (r : _) (s : _) (n : ℕ) (fromServer : Bool) → data-contract.Post κs a r s → r ≡ Ok n
     → a.1.0 < NUMBERS → read_as fromServer (take n s.0.now) ≡ values (data_block a.1.0 a.1.1.0.now)
 data_back κs a r s n fromServer p g h =
     on_contract _ _ _ _ (reads_back _ _ _ _ (data_good fromServer a.1.0 a.1.1.0.now h)) _ _ r n p.0 p.1 g
 
 pub data_first_back :
-    (κs : _) (a : _) (r : _) (s : _) (n : ℕ) (fromServer : Bool) → data-first-contract.Post κs a r s → r ≡ Length n
+    (κs : _) (a : _) (r : _) (s : _) (n : ℕ) (fromServer : Bool) → data-first-contract.Post κs a r s → r ≡ Ok n
     → a.1.0 < NUMBERS → a.1.1.0 < NUMBERS
     → read_as fromServer (take n s.0.now) ≡ values (data_first_law a.1.0 a.1.1.0 a.1.1.1.0.now)
 data_first_back κs a r s n fromServer p g h k =
     on_contract _ _ _ _ (reads_back _ _ _ _ (data_first_good fromServer a.1.0 a.1.1.0 a.1.1.1.0.now h k)) _ _ r n p.0 p.1 g
 
 pub create_response_back :
-    (κs : _) (a : _) (r : _) (s : _) (n : ℕ) → create-response-contract.Post κs a r s → r ≡ Length n
+    (κs : _) (a : _) (r : _) (s : _) (n : ℕ) → create-response-contract.Post κs a r s → r ≡ Ok n
     → a.1.0 < NUMBERS → SFits w32 a.1.1.0 → read_as false (take n s.0.now) ≡ values (create_response_law a.1.0 a.1.1.0)
 create_response_back κs a r s n p g h f =
     on_contract _ _ _ _ (reads_back _ _ _ _ (create_response_good a.1.0 a.1.1.0 h f)) _ _ r n p.0 p.1 g
 
 pub create_request_back :
-    (κs : _) (a : _) (r : _) (s : _) (n : ℕ) → create-request-contract.Post κs a r s → r ≡ Length n
+    (κs : _) (a : _) (r : _) (s : _) (n : ℕ) → create-request-contract.Post κs a r s → r ≡ Ok n
     → a.1.0 < NUMBERS → read_as true (take n s.0.now) ≡ values (create_request_law a.1.0 a.1.1.0 a.1.1.1.0.now)
 create_request_back κs a r s n p g h =
     on_contract _ _ _ _ (reads_back _ _ _ _ (create_request_good a.1.0 a.1.1.0 a.1.1.1.0.now h)) _ _ r n p.0 p.1 g
 
 pub caps_request_back :
-    (κs : _) (a : _) (r : _) (s : _) (n : ℕ) → caps-request-contract.Post κs a r s → r ≡ Length n
+    (κs : _) (a : _) (r : _) (s : _) (n : ℕ) → caps-request-contract.Post κs a r s → r ≡ Ok n
     → SmallCharges a.1.1.0 → read_as true (take n s.0.now) ≡ values (capabilities_request a.1.0 a.1.1.0)
 caps_request_back κs a r s n p g f =
     on_contract _ _ _ _ (reads_back _ _ _ _ (caps_request_good a.1.0 a.1.1.0 f)) _ _ r n p.0 p.1 g
 
 pub caps_response_back :
-    (κs : _) (a : _) (r : _) (s : _) (n : ℕ) → caps-response-contract.Post κs a r s → r ≡ Length n
+    (κs : _) (a : _) (r : _) (s : _) (n : ℕ) → caps-response-contract.Post κs a r s → r ≡ Ok n
     → read_as false (take n s.0.now) ≡ values (capabilities_response a.1.0)
 caps_response_back κs a r s n p g =
     on_contract _ _ _ _ (reads_back _ _ _ _ (caps_response_good a.1.0)) _ _ r n p.0 p.1 g

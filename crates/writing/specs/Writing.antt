@@ -1,5 +1,6 @@
 -- What writing answers and leaves in the buffer. "Writing: 1, 5, 11."
-use Rattle.std.specs.Prelude.{ℕ, Bool, cond, not, ◌&&◌, ◌||◌, List, [], ◌∷◌, ltb, eqb, length}
+use Rattle.std.specs.Prelude.{ℕ, Bool, cond, not, ◌&&◌, ◌||◌, List, [], ◌∷◌, ltb, eqb, length, Result, Err, Ok}
+use Rattle.paper.specs.declared.Refusal.{Refusal}
 use Rattle.paper.specs.Sizes.{PDU_MAX}
 use Rattle.paper.specs.Refusals.{refusal_number}
 use Rattle.paper.specs.Rows.{refuse, Row, row, Outcome, done, refusal}
@@ -8,25 +9,23 @@ use Rattle.lists.specs.Places.{place}
 use Rattle.lists.specs.Bytes.{is_zero}
 use Rattle.reading.specs.Reading.{bad_version}
 use Rattle.reading.specs.declared.Charges.{Charges}
-use Rattle.writing.specs.declared.Written.{Written}
-use Rattle.writing.specs.declared.Written.TheVariants.{Length, Refused}
 
 -- 1: the buffer is not of its size; 5: a value is bad; 11: "a PDU that would pass 1,600"
-unfoldable pub judged : ℕ → Bool → ℕ → Written
+unfoldable pub judged : ℕ → Bool → ℕ → Result ℕ Refusal
 judged room bad len =
-    refuse (Refused BadCall) (ltb room PDU_MAX)
-    (refuse (Refused BadField) bad
-    (refuse (Refused OverLimit) (ltb PDU_MAX len)
-    (Length len)))
+    refuse (Err BadCall) (ltb room PDU_MAX)
+    (refuse (Err BadField) bad
+    (refuse (Err OverLimit) (ltb PDU_MAX len)
+    (Ok len)))
 
 -- what writing a PDU answers
-unfoldable pub written : Bool → List ℕ → List ℕ → Written
+unfoldable pub written : Bool → List ℕ → List ℕ → Result ℕ Refusal
 written bad pdu out = judged (length out) bad (length pdu)
 
 -- the answer in the paper's terms: the PDU's length, or the refusal's number
-unfoldable pub outcome : Written → Outcome ℕ
-outcome (Length n) = done n
-outcome (Refused why) = refusal (refusal_number why)
+unfoldable pub outcome : Result ℕ Refusal → Outcome ℕ
+outcome (Ok n) = done n
+outcome (Err why) = refusal (refusal_number why)
 
 -- 5 "on writing: a name with a zero byte [..], a class over 3"
 unfoldable pub bad_request : ℕ → List ℕ → Bool

@@ -15,28 +15,20 @@ ghost use Rattle.writing.specs.Writing.{bad_request, bad_capabilities, all_zero,
 use paper::{PDU_MAX, Refusal};
 use reading::Charges;
 
-// What writing answers.
-#[derive(Clone, Copy)]
-pub enum Written {
-    // The PDU's length.
-    Length(usize),
-    Refused(Refusal),
-}
-
 // The refusals in their order, from the buffer's length, whether a value is bad, and the PDU's length.
-fn judge(room: usize, bad: bool, length: usize) -> Written
+fn judge(room: usize, bad: bool, length: usize) -> Result<usize, Refusal>
     ensures { result ≡ judged room bad length }
 {
     if room < PDU_MAX {
-        return Written::Refused(Refusal::BadCall);
+        return Err(Refusal::BadCall);
     }
     if bad {
-        return Written::Refused(Refusal::BadField);
+        return Err(Refusal::BadField);
     }
     if PDU_MAX < length {
-        return Written::Refused(Refusal::OverLimit);
+        return Err(Refusal::OverLimit);
     }
-    Written::Length(length)
+    Ok(length)
 }
 
 // A class over 3, or a name with a zero byte.
@@ -59,6 +51,7 @@ fn bad_version(version: u16) -> bool
     3 < version
 }
 
+// Field by field: a charge of each class is its own at the C interface.
 fn all_zero(charges: Charges) -> bool
     ensures { result ≡ all_zero charges }
 {
@@ -94,88 +87,88 @@ fn request_length(version: u16) -> usize
     12
 }
 
-pub fn write_create_request(out: &mut [u8], number: u32, class: u8, name: &[u8]) -> Written
+pub fn write_create_request(
+    out: &mut [u8],
+    number: u32,
+    class: u8,
+    name: &[u8],
+) -> Result<usize, Refusal>
     ensures value { result ≡ written (bad_request class name.now)
         (create_request_bytes number class name.now) out.old }
     ensures out_after { out.new ≡ buffer_after (outcome result) (create_request_bytes number class name.now) out.old }
 {
-    let length = 1 + numbers::narrow(number) + name.len() + 1;
-    let answer = judge(out.len(), bad_request(class, name), length);
-    if let Written::Length(_) = answer {
-        laying::create_request(out, number, class, name);
-    }
-    answer
+    let wanted = 1 + numbers::narrow(number) + name.len() + 1;
+    let length = judge(out.len(), bad_request(class, name), wanted)?;
+    laying::create_request(out, number, class, name);
+    Ok(length)
 }
 
-pub fn write_create_response(out: &mut [u8], number: u32, status: i32) -> Written
+pub fn write_create_response(out: &mut [u8], number: u32, status: i32) -> Result<usize, Refusal>
     ensures value { result ≡ written false (create_response_bytes number status) out.old }
     ensures out_after { out.new ≡ buffer_after (outcome result) (create_response_bytes number status) out.old }
 {
-    let length = 1 + numbers::narrow(number) + 4;
-    let answer = judge(out.len(), false, length);
-    if let Written::Length(_) = answer {
-        laying::create_response(out, number, status);
-    }
-    answer
+    let wanted = 1 + numbers::narrow(number) + 4;
+    let length = judge(out.len(), false, wanted)?;
+    laying::create_response(out, number, status);
+    Ok(length)
 }
 
-pub fn write_data_first(out: &mut [u8], number: u32, length: u32, block: &[u8]) -> Written
+pub fn write_data_first(
+    out: &mut [u8],
+    number: u32,
+    length: u32,
+    block: &[u8],
+) -> Result<usize, Refusal>
     ensures value { result ≡ written false (data_first_bytes number length block.now) out.old }
     ensures out_after { out.new ≡ buffer_after (outcome result) (data_first_bytes number length block.now) out.old }
 {
-    let long = 1 + numbers::narrow(number) + numbers::narrow(length) + block.len();
-    let answer = judge(out.len(), false, long);
-    if let Written::Length(_) = answer {
-        laying::data_first(out, number, length, block);
-    }
-    answer
+    let wanted = 1 + numbers::narrow(number) + numbers::narrow(length) + block.len();
+    let laid = judge(out.len(), false, wanted)?;
+    laying::data_first(out, number, length, block);
+    Ok(laid)
 }
 
-pub fn write_data(out: &mut [u8], number: u32, block: &[u8]) -> Written
+pub fn write_data(out: &mut [u8], number: u32, block: &[u8]) -> Result<usize, Refusal>
     ensures value { result ≡ written false (data_bytes number block.now) out.old }
     ensures out_after { out.new ≡ buffer_after (outcome result) (data_bytes number block.now) out.old }
 {
-    let length = 1 + numbers::narrow(number) + block.len();
-    let answer = judge(out.len(), false, length);
-    if let Written::Length(_) = answer {
-        laying::data(out, number, block);
-    }
-    answer
+    let wanted = 1 + numbers::narrow(number) + block.len();
+    let length = judge(out.len(), false, wanted)?;
+    laying::data(out, number, block);
+    Ok(length)
 }
 
-pub fn write_close(out: &mut [u8], number: u32) -> Written
+pub fn write_close(out: &mut [u8], number: u32) -> Result<usize, Refusal>
     ensures value { result ≡ written false (close_bytes number) out.old }
     ensures out_after { out.new ≡ buffer_after (outcome result) (close_bytes number) out.old }
 {
-    let answer = judge(out.len(), false, 1 + numbers::narrow(number));
-    if let Written::Length(_) = answer {
-        laying::close(out, number);
-    }
-    answer
+    let length = judge(out.len(), false, 1 + numbers::narrow(number))?;
+    laying::close(out, number);
+    Ok(length)
 }
 
-pub fn write_capabilities_request(out: &mut [u8], version: u16, charges: Charges) -> Written
+pub fn write_capabilities_request(
+    out: &mut [u8],
+    version: u16,
+    charges: Charges,
+) -> Result<usize, Refusal>
     ensures value { result ≡ written (bad_capabilities version charges) (caps_request_bytes version charges) out.old }
     ensures out_after { out.new ≡ buffer_after (outcome result) (caps_request_bytes version charges) out.old }
 {
-    let answer = judge(
+    let length = judge(
         out.len(),
         bad_capabilities(version, charges),
         request_length(version),
-    );
-    if let Written::Length(_) = answer {
-        laying::capabilities_request(out, version, charges);
-    }
-    answer
+    )?;
+    laying::capabilities_request(out, version, charges);
+    Ok(length)
 }
 
-pub fn write_capabilities_response(out: &mut [u8], version: u16) -> Written
+pub fn write_capabilities_response(out: &mut [u8], version: u16) -> Result<usize, Refusal>
     ensures value { result ≡ written (bad_version version) (caps_response_bytes version) out.old }
     ensures out_after { out.new ≡ buffer_after (outcome result) (caps_response_bytes version) out.old }
 {
-    let answer = judge(out.len(), bad_version(version), 4);
-    if let Written::Length(_) = answer {
-        laying::capabilities_response(out, version);
-    }
-    answer
+    let length = judge(out.len(), bad_version(version), 4)?;
+    laying::capabilities_response(out, version);
+    Ok(length)
 }

@@ -15,20 +15,20 @@ returns c =
     let a = c.args in
     let block = a.block.now in
     let bytes = a.bytes.now in
-    let all = a.used + c.lesser.result in
-    let n : all ≡ a.used + min (length bytes) (PAYLOAD - a.used) = omega (arith, c.lesser.ensures) in
-    let size = c.requires.0 in
-    let room = c.requires.1 in
+    let all = a.used + c.min.result in
+    let n : all ≡ a.used + min (length bytes) (PAYLOAD - a.used) = omega (arith, c.min.ensures) in
+    let size : length block ≡ BLOCK = c.told-block in
+    let room = c.requires in
     let l = c.copy_at.new.part in
     let part = c.clear.new.part in
     let end = HEAD + all in
     let long : length l ≡ BLOCK = ap length c.copy_at.ensures ∙ length_laid block (HEAD + a.used) bytes ∙ size in
-    let short : length (take (length l - end) (drop end l)) ≡ BLOCK - end = rw (length-take, length-drop) (omega arith) in
+    let short : length (take (BLOCK - end) (drop end l)) ≡ BLOCK - end = rw (length-take, length-drop) (omega arith) in
     let zero : part ≡ zeros (BLOCK - end) = c.clear.ensures ∙ ap zeros short in
-    let lent : length part ≡ length l - end = ap length zero ∙ length_zeros (BLOCK - end) ∙ rw long in
+    let lent : length part ≡ BLOCK - end = ap length zero ∙ length_zeros (BLOCK - end) in
     record {
       count = n ∙ sym (length_joined a.used bytes block size room);
-      body = ap (drop HEAD) (back l end (length l) part (omega arith) (omega arith) lent)
+      body = ap (drop HEAD) (back l end BLOCK part (omega arith) (omega arith) lent)
           ∙ ap (λ (z : List ℕ). drop HEAD (laid l end z)) zero
           ∙ ap (λ (m : List ℕ). drop HEAD (laid m end (zeros (BLOCK - end)))) c.copy_at.ensures
           ∙ body_filled a.used bytes block size room all n;

@@ -1,11 +1,8 @@
 -- `cause::noted` meets its contract: before turn i the first i notes are done, and the others are as they were.
-use Rattle.std.proofs.Common.{◌≡◌, ◌-◌, ◌≤◌, length}
+use Rattle.std.proofs.Common.{◌≡◌, length}
 use Rattle.paper.specs.Sizes.{PARTS}
 use Rattle.cause.proofs.Notes.{SoFar}
 use Rattle.cause.proofs.noted.Given as goal
 
 abbrev pub invariant-loop-i : goal.invariant-loop-i
-invariant-loop-i l = (l.i ≤ PARTS) × (length l.initial.next ≡ PARTS) × SoFar l.note l.before l.after l.initial.next l.next l.i
-
-abbrev pub decreases-loop-i : goal.decreases-loop-i
-decreases-loop-i l = PARTS - l.i
+invariant-loop-i l = (length l.initial.next ≡ PARTS) × SoFar l.note l.before l.after l.initial.next l.next l.i

@@ -5,4 +5,4 @@ use Rattle.cause.proofs.onward.Goals as goal
 
 pub returns : goal.returns
 unfolding course_on
-returns c = rw (c.wrapping_add_u64.ensures.value, c.notes_after.ensures, c.said_after-said.ensures) refl
+returns c = rw (c.notes_after.ensures, c.said_after-said.ensures) refl

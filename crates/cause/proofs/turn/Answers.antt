@@ -1,14 +1,16 @@
--- `cause::turn` meets its contract: the walk over the input, and what it left at the front.
-use Rattle.std.proofs.Common.{length, sym, refl, ap, ◌∙◌, arith, length-drop}
-use Rattle.lists.proofs.Laid.{length_laid}
-use Rattle.records.specs.Walks.{rest_of}
+-- `cause::turn` meets its contract: each call of its step takes a PDU.
+use Rattle.std.proofs.Common.{ap, refl, rules}
+use Rattle.records.proofs.Calls.{all_made}
+use Rattle.cause.specs.Cause.{Way, way_of, way_after}
 use Rattle.cause.proofs.turn.Goals as goal
 
-pub returns : goal.returns
-unfolding rest_of
-returns c =
+pub returns-clause-value : goal.returns-clause-value
+returns-clause-value c =
     let a = c.args in
-    let input = a.input.now in
-    let walked = c.walk-walked.ensures in
-    let long = ap length c.to_front.ensures ∙ length_laid input 0 _ in
-    rw (long, sym walked.course_value, sym walked.store_after, sym walked.taken_value.0, length-drop _ input) (record { value = (refl, omega arith); store_after = refl; input_after = c.to_front.ensures })
+    let made = all_made way_of (way_after a.sought a.list.now) (λ course lent pdu next left call. search rules) _ _ _ c.turn.ensures.calls in
+    rw (← ap (λ (w : Way). w.course) made, ← c.turn.ensures.had.0) (refl, c.turn.ensures.had.1)
+
+pub returns-clause-store_after : goal.returns-clause-store_after
+returns-clause-store_after c =
+    let a = c.args in
+    ap (λ (w : Way). w.store) (all_made way_of (way_after a.sought a.list.now) (λ course lent pdu next left call. search rules) _ _ _ c.turn.ensures.calls)

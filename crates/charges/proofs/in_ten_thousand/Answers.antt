@@ -17,6 +17,6 @@ overflow_cast-result c =
     let h : WHOLE * a.weight / a.all ≤ WHOLE = div-le_of_le-mul a.all (omega arith) in
     omega (arith, c.rounded.ensures, h)
 
-pub returns : goal.returns
+pub returns-else-all-eq0 : goal.returns-else-all-eq0
 unfolding part
-returns c = c.rounded.ensures
+returns-else-all-eq0 c = c.rounded.ensures

@@ -1,26 +1,11 @@
--- `client::heard` meets its contract: each arm is a case of the definition. A name lies within the PDU, as reading says.
+-- `client::heard` meets its contract: each arm is a case of the definition.
 use mathlib.Core.Path.{refl, sym, ap, ◌∙◌}
 use mathlib.Core.List.{List}
 use Prim.Native.Nat.{ℕ}
-use mathlib.Core.Bool.{true}
-use native.Mathlib.Omega.{arith}
-use Rattle.lists.proofs.Laid.{from_to}
-use Rattle.reading.specs.Said.{bytes_at}
-use Rattle.reading.proofs.Placed.{Placed, placed}
 use Rattle.channel.specs.declared.Ask.{Ask}
 use Rattle.deciding.specs.declared.Matter.TheVariants.{Asks}
 use Rattle.client.specs.Asking.{nowhere, asking, create_ask, heard_in}
 use Rattle.client.proofs.heard.Goals as goal
-
-pub overflow_add-end : goal.overflow_add-end
-overflow_add-end c =
-    let lies_in : Placed c.args.pdu.now c.read.result = rw c.read.ensures (placed c.args.pdu.now true) in
-    omega (arith, rw c.in-CreateRequest.is at (lies_in))
-
-pub slice_bounds-create_ask-end : goal.slice_bounds-create_ask-end
-slice_bounds-create_ask-end c =
-    let lies_in : Placed c.args.pdu.now c.read.result = rw c.read.ensures (placed c.args.pdu.now true) in
-    omega (arith, rw c.in-CreateRequest.is at (lies_in))
 
 pub returns-in-Refused : goal.returns-in-Refused
 unfolding heard_in
@@ -31,13 +16,11 @@ unfolding heard_in
 returns-in-CapsRequest c = rw (sym c.read.ensures ∙ c.in-CapsRequest.is) c.bare.ensures
 
 pub returns-in-CreateRequest : goal.returns-in-CreateRequest
-unfolding heard_in bytes_at
+unfolding heard_in
 returns-in-CreateRequest c =
     let a = c.args in
     let request = c.in-CreateRequest in
-    let name = request.name in
-    let bytes = from_to a.pdu.now name.at name.len in
-    let asks = c.create_ask.ensures ∙ ap (λ (b : List ℕ). create_ask a.list.now b request.class) bytes in
+    let asks = c.create_ask.ensures ∙ ap (λ (b : List ℕ). create_ask a.list.now b request.class) c.of.ensures in
     rw (sym c.read.ensures ∙ c.in-CreateRequest.is)
     (c.bare-in-CreateRequest.ensures ∙ ap (λ (ask : Ask). asking request.number (Asks ask) nowhere) asks)
 

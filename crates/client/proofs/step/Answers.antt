@@ -6,7 +6,6 @@ use Rattle.paper.specs.declared.Refusal.TheVariants.{BadCall}
 use Rattle.connection.specs.States.{state_of}
 use Rattle.client.specs.Asking.{event_asked}
 use Rattle.client.specs.Client.{refused, stepped}
-use Rattle.client.proofs.Asking.{clipped}
 use Rattle.client.proofs.Steps.{gives_refused}
 use Rattle.client.proofs.Calls.{proper, refuses, passes, gives_whole}
 use Rattle.client.proofs.step.Goals as goal
@@ -36,6 +35,6 @@ returns c =
     let reply = a.reply.now in
     let st = state_of a.table store in
     let good = sym c.bad_call.ensures ∙ c.if-bad_call.false in
-    let block = clipped a.pdu.now a.asked.block _ _ c.lesser-at.ensures c.lesser.ensures in
+    let block = c.of.ensures in
     let both = gives_whole _ (stepped st (event_asked a.asked a.pdu.now)) reply _ _ _ (passes a.table store reply (stepped st (event_asked a.asked a.pdu.now)) good)
     (rw block at c.taken.ensures) in record { value = both.0; store_after = both.1.0; reply_after = both.1.1 }

@@ -4,6 +4,8 @@ use Rattle.client.specs.Client.{place_if}
 use Rattle.lists.proofs.Arrays.{length_mapped}
 use Rattle.paper.specs.Sizes.{PARTS}
 use lib.ListN.{length}
+use Rattle.std.specs.Prelude.{Option}
+use Prim.Native.Nat.{ℕ}
 use mathlib.Core.Path.{◌≡◌, refl, ap, ◌∙◌}
 use borrow.Author.Rules.{rules}
 use Rattle.client.proofs.taken.Goals as goal
@@ -13,7 +15,7 @@ unfolding PARTS
 returns c =
     let sixteen : length c.args.table.records ≡ PARTS = search (rules, length_mapped, c.well_formed) in
     let a = c.args in
-    let stands = c.place_for.ensures ∙ ap (place_if _) c.place_after.ensures in
+    let stands = c.place_if.ensures ∙ ap (λ (concern : Option ℕ). place_if concern c.place_after.result) c.concerns.ensures ∙ ap (place_if _) c.place_after.ensures in
     gives_decided a.number a.table a.store.now (sixteen) c.requires.0 c.requires.1 a.matter a.block.now _ _
     c.find-found.ensures
     c.decide-decided.ensures

@@ -5,6 +5,6 @@ use Rattle.client_face.proofs.dvc_local_close.Goals as goal
 pub returns : goal.returns
 returns c =
     let a = c.args in
-    let e = c.call.ensures in
+    let e = rw c.closing.ensures at c.call.ensures in
     let both = face_is _ _ _ _ _ _ (closes_face a.state.now a.store.now a.number a.reply.now) (e.value, (e.state_after, (e.store_after, e.reply_after))) in
     record { value = both.0; state_after = both.1.0; store_after = both.1.1.0; reply_after = both.1.1.1 }

@@ -1,11 +1,8 @@
 -- `codepage::has_name` meets its contract: there is a result exactly if it has a length.
-use mathlib.Core.Path.{sym, ◌∙◌}
+use Rattle.std.proofs.Common.{◌∙◌, ap, is_some}
 use Rattle.codepage.specs.Names.{name_of}
-use Rattle.codepage.proofs.Answers.{no_size, has_size}
+use Rattle.codepage.proofs.Answers.{size_some}
 use Rattle.codepage.proofs.has_name.Goals as goal
 
-pub returns-in-Bytes : goal.returns-in-Bytes
-returns-in-Bytes c = sym (has_size (name_of c.args.text.now) _ (sym c.name_len.ensures ∙ c.in-Bytes.is)).0
-
 pub returns : goal.returns
-returns c = sym (no_size (name_of c.args.text.now) (sym c.name_len.ensures ∙ c.in_default.is))
+returns c = c.is_some.ensures ∙ ap is_some c.name_len.ensures ∙ size_some (name_of c.args.text.now)

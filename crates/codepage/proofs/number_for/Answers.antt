@@ -11,19 +11,19 @@ use Rattle.codepage.proofs.number_for.Goals as goal
 
 pub overflow_cast-result : goal.overflow_cast-result
 overflow_cast-result c =
-    let small : c.in-Length.n < 2 ^ 63 = subst Countable c.in-Length.is c.requires in
+    let small : c.in-Ok.n < 2 ^ 63 = subst Countable c.in-Ok.is c.requires in
     record { sfits = small }
 
 pub overflow_sub-result : goal.overflow_sub-result
 overflow_sub-result c = less_fits c.refusal_number.result (omega arith)
 
-pub returns-in-Length : goal.returns-in-Length
+pub returns-in-Ok : goal.returns-in-Ok
 unfolding number_for
-returns-in-Length c =
-    let small : c.in-Length.n < 2 ^ 63 = subst Countable c.in-Length.is c.requires in
-    rw c.in-Length.is (to_z_pos w64 (small))
+returns-in-Ok c =
+    let small : c.in-Ok.n < 2 ^ 63 = subst Countable c.in-Ok.is c.requires in
+    rw c.in-Ok.is (to_z_pos w64 (small))
 
-pub returns-in-Refused : goal.returns-in-Refused
+pub returns-in-Err : goal.returns-in-Err
 unfolding number_for
-returns-in-Refused c = rw c.in-Refused.is
+returns-in-Err c = rw c.in-Err.is
     (less_is c.refusal_number.result (omega arith) ∙ ap (λ (n : ℕ). neg_ℤ (pos n)) c.refusal_number.ensures)

@@ -1,8 +1,9 @@
 -- `codepage::point_of` meets its contract: the code's table is the definition's.
-use mathlib.Core.Path.{refl}
+use Rattle.std.proofs.Common.{arith}
 use Rattle.codepage.specs.Points.{points}
+use Rattle.codepage.proofs.Points.{entry_read}
 use Rattle.codepage.proofs.point_of.Goals as goal
 
-pub entry-requires : goal.entry-requires
+pub returns : goal.returns
 unfolding points
-entry-requires c = refl
+returns c = entry_read c.args.byte (omega arith)

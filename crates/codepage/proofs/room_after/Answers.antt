@@ -1,47 +1,35 @@
-use mathlib.Core.Path.{◌≡◌, refl}
-use mathlib.Core.List.{[]}
-use Prim.Native.Nat.{◌+◌, ◌-◌, ◌<◌}
-use borrow.Author.Tests.{lt-ltb, le-ltb}
-use lib.ListN.{length, length-append}
-use native.Mathlib.Omega.{arith}
-use Rattle.codepage.specs.Points.{points}
+use Rattle.std.proofs.Common.{◌≡◌, ◌∙◌, [], sym, arith, length, ◌-◌, ◌<◌, ◌≤◌, length-append, drop_of_length-le}
 use Rattle.codepage.specs.Utf8.{sequence_of}
-use Rattle.codepage.specs.Names.{utf8_of, result_of}
+use Rattle.codepage.specs.Names.{utf8_of}
+use Rattle.codepage.proofs.Answers.{room_short, room_is}
 use Rattle.codepage.proofs.Leads.{leads_first, leads_front, leads_end}
-use Rattle.codepage.proofs.Answers.{is_result}
 use Rattle.codepage.proofs.Names.{name_ends, byte_sure}
 use Rattle.codepage.proofs.room_after.Goals as goal
 
-pub entry-requires : goal.entry-requires
-unfolding points
-entry-requires c = refl
+pub loop-b-init : goal.loop-b-init
+loop-b-init c = (record { done = []; leads = leads_first utf8_of c.args.name.now }, omega arith)
 
-pub loop-i-init : goal.loop-i-init
-loop-i-init c = (record { done = []; leads = leads_first utf8_of c.args.name.now }, omega arith)
-
-pub returns-then-left-n : goal.returns-then-left-n
-returns-then-left-n c =
-    let l = c.loop-i in
-    let next = byte_sure c.args.name.now l.i c.loop-i-test.true l.invariant.0.done l.invariant.0.leads c.entry.result c.entry.ensures c.requires in
+pub returns-in_err-left : goal.returns-in_err-left
+returns-in_err-left c =
+    let l = c.loop-b in
     let name = c.args.name.now in
-    let longer = length-append l.invariant.0.done (sequence_of c.entry.result) in
-    let front = leads_front utf8_of name (l.i + 1) _ next c.requires in
-    let over : c.args.room < length (result_of (utf8_of name)) =
-    omega (arith, c.if-left-n.true, c.width-n.ensures, l.invariant.1, longer, front) in
-    rw (is_result (utf8_of name) c.requires, lt-ltb c.args.room (length (result_of (utf8_of name))) over)
+    let next = byte_sure name l.b-index c.loop-b-test.true l.invariant.0.done l.invariant.0.leads c.point_of.result c.point_of.ensures c.requires in
+    let front = leads_front utf8_of name _ _ next c.requires in
+    let longer = length-append l.invariant.0.done (sequence_of c.point_of.result) in
+    let less : l.left < length (sequence_of c.point_of.result) = omega (arith, c.in_err-left.ensures, c.width.ensures) in
+    c.from_residual.ensures ∙ sym (room_short (utf8_of name) c.args.room c.requires (omega (arith, l.invariant.1, longer, front, less)))
 
-pub loop-i-preserved : goal.loop-i-preserved
-loop-i-preserved c =
-    let l = c.loop-i in
-    let next = byte_sure c.args.name.now l.i c.loop-i-test.true l.invariant.0.done l.invariant.0.leads c.entry.result c.entry.ensures c.requires in
-    let longer = length-append l.invariant.0.done (sequence_of c.entry.result) in
-    (record { done = _; leads = next }, omega (arith, c.if-left-n.false, c.width-n.ensures, l.invariant.1, longer))
+pub loop-b-preserved : goal.loop-b-preserved
+loop-b-preserved c =
+    let l = c.loop-b in
+    let next = byte_sure c.args.name.now l.b-index c.loop-b-test.true l.invariant.0.done l.invariant.0.leads c.point_of.result c.point_of.ensures c.requires in
+    let longer = length-append l.invariant.0.done (sequence_of c.point_of.result) in
+    let taken : (c.width.result ≤ l.left) × (c.in_ok-left.left ≡ l.left - c.width.result) = c.in_ok-left.ensures in
+    (record { done = _; leads = next }, omega (arith, longer, taken, c.width.ensures, l.invariant.1))
 
 pub returns : goal.returns
 returns c =
-    let l = c.loop-i in
-    let a = c.args in
-    let all = leads_end utf8_of a.name.now l.i l.invariant.0.done name_ends (omega (arith, c.loop-i-test.false)) l.invariant.0.leads in
-    let fits = le-ltb a.room (length l.invariant.0.done) (omega (arith, l.invariant.1)) in
-    let left : a.room - length l.invariant.0.done ≡ l.left = omega (arith, l.invariant.1) in
-    rw (all, fits, left)
+    let l = c.loop-b in
+    let name = c.args.name.now in
+    let all = leads_end utf8_of name l.invariant.0.done name_ends (rw (drop_of_length-le name {i = l.b-index} c.loop-b-test.false) at l.invariant.0.leads) in
+    sym (room_is (utf8_of name) c.args.room l.left l.invariant.0.done all (omega (arith, l.invariant.1)))

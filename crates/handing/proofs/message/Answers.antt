@@ -21,7 +21,7 @@ unfolding handed_up PART MESSAGE_MAX MESSAGE_LINE_MAX
 returns c =
     let a = c.args in
     let start : 4096 * a.at ≡ min (4096 * a.at) (length a.store.now) = omega (arith, c.if-most-at.false) in
-    let end = ap (λ (x : ℕ). 4096 * a.at + x) (rw c.lesser-n.ensures at c.lesser.ensures) in
+    let end = ap (λ (x : ℕ). 4096 * a.at + x) (rw c.min-n.ensures at c.min.ensures) in
     let lent = message_lent a.store.now a.at a.len (4096 * a.at) _ start end in
     let did = rw lent at c.message_line-2.ensures in
     (record { value = did.value; out_after = did.out_after })

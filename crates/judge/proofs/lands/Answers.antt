@@ -13,7 +13,7 @@ returns-in-Spoils c = rw (sym c.take.ensures ∙ c.in-Spoils.is)
 
 pub returns-in-Holds : goal.returns-in-Holds
 unfolding course_by
-returns-in-Holds c = rw (sym c.take.ensures ∙ c.in-Holds.is, sym c.agrees_on.ensures, sym c.wrapping_add_u64.ensures.value)
+returns-in-Holds c = rw (sym c.take.ensures ∙ c.in-Holds.is, sym c.agrees_on.ensures)
 
 pub returns-in-Finishes : goal.returns-in-Finishes
 unfolding course_by

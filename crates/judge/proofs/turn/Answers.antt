@@ -1,15 +1,14 @@
--- `judge::turn` meets its contract: the walk over the input, and what it left at the front.
-use Rattle.std.proofs.Common.{length, sym, refl, ap, ◌∙◌, arith, length-drop}
-use Rattle.lists.proofs.Laid.{length_laid}
-use Rattle.records.specs.Walks.{rest_of}
+-- `judge::turn` meets its contract: each call of its step judges a PDU.
+use Rattle.std.proofs.Common.{ℕ, List, refl, rules}
+use Rattle.records.proofs.Calls.{all_made}
+use Rattle.judge.specs.declared.Course.{Course}
+use Rattle.judge.specs.Judge.{course_after}
 use Rattle.judge.specs.Sender.{turned}
 use Rattle.judge.proofs.turn.Goals as goal
 
-pub returns : goal.returns
-unfolding turned rest_of
-returns c =
+pub returns-clause-value : goal.returns-clause-value
+unfolding turned
+returns-clause-value c =
     let a = c.args in
-    let input = a.input.now in
-    let walked = c.walk-walked.ensures in
-    let long = ap length c.to_front.ensures ∙ length_laid input 0 _ in
-    rw (long, sym walked.course_value, sym walked.taken_value.0, length-drop _ input) (record { value = (refl, omega arith); input_after = c.to_front.ensures })
+    let judged = all_made (λ (course : Course) (lent : List ℕ). course) (course_after a.number a.message.now) (λ course lent pdu next left call. search rules) _ _ _ c.turn.ensures.calls in
+    rw (← judged, ← c.turn.ensures.had.0) (refl, c.turn.ensures.had.1)

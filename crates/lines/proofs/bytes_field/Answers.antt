@@ -1,16 +1,10 @@
--- `lines::bytes_field` meets its contract: of the bytes at most 4,096 are lent.
-use lib.Seq.{length-take-le}
-use Rattle.paper.specs.Sizes.{MESSAGE_MAX}
-use Rattle.lists.proofs.Laid.{take_least}
-use native.Mathlib.Omega.{arith}
+-- `lines::bytes_field` meets its contract. Past the end nothing is laid, from whatever place.
+use Rattle.std.proofs.Common.{arith, rules}
+use Rattle.lines.proofs.Pens.{from_least}
 use Rattle.lines.proofs.bytes_field.Goals as goal
 
-pub message_bytes-requires : goal.message_bytes-requires
-unfolding MESSAGE_MAX
-message_bytes-requires c = omega (arith, length-take-le c.lesser-n.result c.args.bytes.now (omega (arith, c.lesser-n.ensures)), c.lesser-n.ensures)
+pub returns-clause-value : goal.returns-clause-value
+returns-clause-value c = let w = c.bytes.ensures in (omega (arith, w.at), omega (arith, w.at, w.within))
 
-pub returns : goal.returns
-unfolding MESSAGE_MAX
-returns c =
-    let did = rw (c.lesser-n.ensures, take_least 4096 c.args.bytes.now) at c.message_bytes.ensures in
-    record { value = did.value; out_after = did.out_after }
+pub returns-clause-out_after : goal.returns-clause-out_after
+returns-clause-out_after c = search (rules, c.bytes.ensures, from_least c.args.at c.bytes.ensures c.min-from.ensures)

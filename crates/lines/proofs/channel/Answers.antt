@@ -3,10 +3,10 @@ use Rattle.lines.specs.Lines.{channel_field}
 use native.Mathlib.Omega.{arith}
 use Rattle.lines.proofs.channel.Goals as goal
 
-pub returns-in-NoChannel : goal.returns-in-NoChannel
+pub returns-in-None : goal.returns-in-None
 unfolding channel_field
-returns-in-NoChannel c = rw c.in-NoChannel.is (record { value = (c.text.ensures.value, omega (arith, c.text.ensures.value)); out_after = c.text.ensures.out_after })
+returns-in-None c = rw c.in-None.is (record { value = (c.text.ensures.value, omega (arith, c.text.ensures.value)); out_after = c.text.ensures.out_after })
 
-pub returns-in-Channel : goal.returns-in-Channel
+pub returns-in-Some : goal.returns-in-Some
 unfolding channel_field
-returns-in-Channel c = rw c.in-Channel.is c.field.ensures
+returns-in-Some c = rw c.in-Some.is c.field.ensures

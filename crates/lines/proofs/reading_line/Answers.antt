@@ -1,15 +1,13 @@
 -- `lines::reading_line` meets its contract: what reading said is laid behind the place.
-use Rattle.lists.proofs.Laid.{laid_next}
-use Rattle.lines.specs.Decimal.{field}
-use Rattle.lines.specs.Lines.{SPACE, verdict_field, reading_line_of}
-use Rattle.lines.proofs.Ends.{ends}
-use native.Mathlib.Omega.{arith}
+use Rattle.std.proofs.Common.{arith, rules}
+use Rattle.lines.specs.Lines.{reading_line_of}
+use Rattle.lines.proofs.Pens.{then}
 use Rattle.lines.proofs.reading_line.Goals as goal
 
-pub returns : goal.returns
+pub returns-clause-value : goal.returns-clause-value
 unfolding reading_line_of
-returns c =
-    let a = c.args in
-    let placed = c.field-placed.ensures in
-    let told = c.verdict.ensures in
-    record { value = (ends (field a.place SPACE) (verdict_field a.refusal) placed.value.0 told.value.0, omega (arith, placed.value.1, told.value.1)); out_after = laid_next a.out.now _ _ (field a.place SPACE) _ _ placed.value.0 placed.out_after told.out_after }
+returns-clause-value c = let w = then c.field.ensures c.verdict.ensures in omega (arith, w.at, w.within)
+
+pub returns-clause-out_after : goal.returns-clause-out_after
+unfolding reading_line_of
+returns-clause-out_after c = search (rules, then c.field.ensures c.verdict.ensures)

@@ -14,10 +14,10 @@ unfolding from_panel STORE PARTS PART
 returns-then-n-eq0 c =
     let a = c.args in
     let store = a.store.now in
-    let text = rw (panel_lent store _ c.lesser-half.ensures) at c.panel_text-told.ensures in
+    let text = rw (panel_lent store _ c.min-half.ensures) at c.panel_text-told.ensures in
     let twice : 2 * CALL_MAX ≡ CALL_MAX + CALL_MAX = omega arith in
     let r = a.received in
-    rw twice (then_stays (record { both = both_of r.table a.shore store; text = panel_text a.place r (take STORE store) }) (carry (take r.sent a.reply.now) (to_shore a.place)) a.out.now _ _ CALL_MAX CALL_MAX (nothing_sent r.sent _ a.reply.now (to_shore a.place) _ c.lesser-n.ensures c.if-n-eq0.true) text.value.0 text.value.1 text.out_after)
+    rw twice (then_stays (record { both = both_of r.table a.shore store; text = panel_text a.place r (take STORE store) }) (carry (take r.sent a.reply.now) (to_shore a.place)) a.out.now _ _ CALL_MAX CALL_MAX (nothing_sent r.sent _ a.reply.now (to_shore a.place) _ c.min-n.ensures c.if-n-eq0.true) text.value.0 text.value.1 text.out_after)
 
 pub overflow_add-result : goal.overflow_add-result
 unfolding CALL_MAX MESSAGE_LINE_MAX MESSAGE_MAX
@@ -28,10 +28,10 @@ unfolding from_panel STORE PARTS PART
 returns c =
     let a = c.args in
     let store = a.store.now in
-    let text = rw (panel_lent store _ c.lesser-half.ensures) at c.panel_text-told.ensures in
+    let text = rw (panel_lent store _ c.min-half.ensures) at c.panel_text-told.ensures in
     let twice : 2 * CALL_MAX ≡ CALL_MAX + CALL_MAX = omega arith in
     let r = a.received in
     let g : Goes = record { both = both_of r.table a.shore store; text = panel_text a.place r (take STORE store) } in
-    let goes = something_sent r.sent _ a.reply.now (to_shore a.place) g.both c.lesser-n.ensures c.if-n-eq0.false in
-    let did = rw (sent_lent r.sent _ a.reply.now c.lesser-n.ensures, ← goes) at c.to_shore-crossed.ensures in
-    rw twice (then_crosses g (carry (take r.sent a.reply.now) (to_shore a.place)) a.out.now _ _ _ CALL_MAX CALL_MAX text.value.0 text.value.1 text.out_after c.lesser-from.ensures did)
+    let goes = something_sent r.sent _ a.reply.now (to_shore a.place) g.both c.min-n.ensures c.if-n-eq0.false in
+    let did = rw (sent_lent r.sent _ a.reply.now c.min-n.ensures, ← goes) at c.to_shore-crossed.ensures in
+    rw twice (then_crosses g (carry (take r.sent a.reply.now) (to_shore a.place)) a.out.now _ _ _ CALL_MAX CALL_MAX text.value.0 text.value.1 text.out_after c.min-from.ensures did)

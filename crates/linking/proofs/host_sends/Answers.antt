@@ -11,8 +11,8 @@ unfolding host_sends message_in
 returns c =
     let a = c.args in
     let bytes = a.bytes.now in
-    let number = c.number-number.ensures ∙ ap value_of (rest_lent bytes 1 c.lesser-lead.result c.lesser-lead.ensures) in
-    let count = rw c.count_in.ensures at c.lesser-count.ensures in
-    let end = ap (λ (x : ℕ). c.lesser-start.result + x) (rw c.message_size.ensures at c.lesser.ensures) in
-    let message = size_lent bytes 7 _ c.lesser-start.result _ c.lesser-start.ensures end in
+    let number = c.number-number.ensures ∙ ap value_of (rest_lent bytes 1 c.min-lead.result c.min-lead.ensures) in
+    let count = rw c.count_in.ensures at c.min-count.ensures in
+    let end = ap (λ (x : ℕ). c.min-start.result + x) (rw c.message_size.ensures at c.min.ensures) in
+    let message = size_lent bytes 7 _ c.min-start.result _ c.min-start.ensures end in
     rw (count, number, message) at c.send.ensures

@@ -9,4 +9,4 @@ pub returns : goal.returns
 unfolding message_length
 returns c =
     let a = c.args in
-    c.number.ensures ∙ ap value_of (part_lent a.bytes.now 5 2 _ _ c.lesser-start.ensures c.lesser-end.ensures)
+    c.number.ensures ∙ ap value_of (part_lent a.bytes.now 5 2 _ _ c.min-start.ensures c.min-end.ensures)

@@ -10,7 +10,7 @@ unfolding panel_closes zeros REPLY_MIN STORE PARTS PART
 returns c =
     let a = c.args in
     let store = a.store.now in
-    let h = c.lesser-half.result in
-    let half = c.lesser-half.ensures in
+    let h = c.min-half.result in
+    let half = c.min-half.ensures in
     let got = rw (panel_lent store h half) at c.local_close-received.ensures in
     rw (got.value, panel_back store c.local_close-received.new.store h half, got.store_after, got.reply_after) at c.from_panel.ensures

@@ -1,4 +1,5 @@
-use mathlib.Core.Path.{refl, ◌∙◌}
+use mathlib.Core.Path.{◌≡◌, refl, ◌∙◌}
+use Prim.Native.Nat.{◌+◌, ◌-◌, ◌<◌}
 use Rattle.paper.specs.Sizes.{MESSAGE_MAX}
 use Rattle.lines.specs.Lines.{MESSAGE_LINE_MAX}
 use Rattle.linking.specs.Linking.{with_store, CALL_MAX, STEP_MAX}
@@ -7,47 +8,36 @@ use Rattle.linking.proofs.Sending.{begins, stopped, none_left, goes_on_law, come
 use native.Mathlib.Omega.{arith}
 use Rattle.linking.proofs.send.Goals as goal
 
-pub loop-left-init : goal.loop-left-init
-loop-left-init c = (refl, begins _ _ _ c.requires)
-
-pub slice_bounds-send_one-count : goal.slice_bounds-send_one-count
-slice_bounds-send_one-count c = omega (arith, c.lesser-start.ensures)
-
-pub slice_bounds-send_one-start : goal.slice_bounds-send_one-start
-slice_bounds-send_one-start c = omega (arith, c.lesser-start.ensures)
-
-pub slice_bounds-send_one-end : goal.slice_bounds-send_one-end
-slice_bounds-send_one-end c = omega (arith, c.lesser-start.ensures)
+pub loop-init : goal.loop-init
+loop-init c =
+    let all : c.args.count - 0 ≡ c.args.count = omega arith in
+    (refl, rw all (begins _ _ _ c.requires))
 
 pub overflow_add-used : goal.overflow_add-used
 unfolding STEP_MAX CALL_MAX MESSAGE_LINE_MAX MESSAGE_MAX
-overflow_add-used c = omega (arith, c.send_one-sent.ensures.1.fits, c.loop-left-test.true, c.loop-left.invariant.1.bounded)
+overflow_add-used c = omega (arith, c.send_one-sent.ensures.1.fits, c.loop-test.true, c.loop.invariant.1.bounded)
 
-pub overflow_sub-left : goal.overflow_sub-left
-overflow_sub-left c = omega (arith, c.loop-left-test.true)
-
-pub loop-left-smaller : goal.loop-left-smaller
-loop-left-smaller c = omega (arith, c.loop-left-test.true)
-
-pub loop-left-preserved : goal.loop-left-preserved
-loop-left-preserved c =
-    let some = c.loop-left-test.true in
-    let l = c.loop-left in
+pub loop-preserved : goal.loop-preserved
+loop-preserved c =
+    let l = c.loop in
+    let some : 0 < c.args.count - l.counter = omega (arith, c.loop-test.true) in
+    let fewer : c.args.count - (l.counter + 1) ≡ c.args.count - l.counter - 1 = omega arith in
     let did = c.send_one-sent.ensures in
-    let lines = over l.out _ _ l.used c.lesser-start.result c.lesser-start.ensures did.1.lines in
-    (c.send_one-sent.auto.store ∙ l.invariant.0, goes_on_law _ _ _ _ _ _ _ l.out l.used l.left l.at (with_store l.next l.store) some l.invariant.1 did.0 did.1 lines (omega (arith, c.if-message-at.false)))
+    let lines = over l.out _ _ l.used c.min-start.result c.min-start.ensures did.1.lines in
+    (c.send_one-sent.auto.store ∙ l.invariant.0, rw fewer (goes_on_law _ _ _ _ _ _ _ l.out l.used (c.args.count - l.counter) l.at (with_store l.next l.store) some l.invariant.1 did.0 did.1 lines (omega (arith, c.if-message-at.false))))
 
-pub returns-after-loop-left : goal.returns-after-loop-left
+pub returns-after-loop : goal.returns-after-loop
 unfolding STEP_MAX CALL_MAX MESSAGE_LINE_MAX MESSAGE_MAX
-returns-after-loop-left c =
-    let l = c.loop-left in
-    stopped _ _ _ _ l.left l.next l.store (rw (none_left _ _ _ _ _ l.at (with_store l.next l.store) l.left (omega (arith, c.loop-left-test.false))) at l.invariant.1)
+returns-after-loop c =
+    let l = c.loop in
+    let left = c.args.count - l.counter in
+    stopped _ _ _ _ left l.next l.store (rw (none_left _ _ _ _ _ l.at (with_store l.next l.store) left (omega (arith, c.loop-test.false))) at l.invariant.1)
 
 pub returns-then-message-at : goal.returns-then-message-at
 unfolding STEP_MAX CALL_MAX MESSAGE_LINE_MAX MESSAGE_MAX
 returns-then-message-at c =
-    let some = c.loop-left-test.true in
-    let l = c.loop-left in
+    let l = c.loop in
+    let some : 0 < c.args.count - l.counter = omega (arith, c.loop-test.true) in
     let did = c.send_one-sent.ensures in
-    let lines = over l.out _ _ l.used c.lesser-start.result c.lesser-start.ensures did.1.lines in
-    comes_to_end _ _ _ _ _ _ _ l.out l.used l.left l.at (with_store l.next l.store) some l.invariant.1 did.0 did.1 lines c.if-message-at.true
+    let lines = over l.out _ _ l.used c.min-start.result c.min-start.ensures did.1.lines in
+    comes_to_end _ _ _ _ _ _ _ l.out l.used (c.args.count - l.counter) l.at (with_store l.next l.store) some l.invariant.1 did.0 did.1 lines c.if-message-at.true

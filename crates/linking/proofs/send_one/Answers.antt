@@ -9,21 +9,21 @@ use Rattle.linking.proofs.Crossing.{sent_lent}
 use native.Mathlib.Omega.{arith}
 use Rattle.linking.proofs.send_one.Goals as goal
 
-pub returns-in-Pdu : goal.returns-in-Pdu
+pub returns-in-Ok : goal.returns-in-Ok
 unfolding sends_one sends_piece zeros PDU_MAX
-returns-in-Pdu c =
+returns-in-Ok c =
     let got = c.cut.ensures in
     let buffer = c.cut.new.out in
-    let len = c.lesser-n.ensures in
-    let n : c.lesser-n.result ≡ min c.in-Pdu.len (length buffer) = omega (arith, len, c.cut.auto.out) in
-    let piece = sym got.value ∙ c.in-Pdu.is in
-    let did = rw (sent_lent c.in-Pdu.len c.lesser-n.result buffer n, got.out_after) at c.across-crossed.ensures in
+    let len = c.min-n.ensures in
+    let n : c.min-n.result ≡ min c.in-Ok.piece.len (length buffer) = omega (arith, len, c.cut.auto.out) in
+    let piece = sym got.value ∙ c.in-Ok.is in
+    let did = rw (sent_lent c.in-Ok.piece.len c.min-n.result buffer n, got.out_after) at c.across-crossed.ensures in
     rw piece (refl, did)
 
-pub returns-in-Refused : goal.returns-in-Refused
+pub returns-in-Err : goal.returns-in-Err
 unfolding sends_one sends_piece zeros PDU_MAX
-returns-in-Refused c =
-    let piece = sym c.cut.ensures.value ∙ c.in-Refused.is in
+returns-in-Err c =
+    let piece = sym c.cut.ensures.value ∙ c.in-Err.is in
     let did = c.unsent-laid.ensures in
     rw piece (
       refl,

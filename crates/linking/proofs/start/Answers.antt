@@ -12,8 +12,8 @@ unfolding both_started started shoreStarted STORE PARTS PART
 returns c =
     let a = c.args in
     let store = a.store.now in
-    let h = c.lesser-half.result in
-    let half = c.lesser-half.ensures in
+    let h = c.min-half.result in
+    let half = c.min-half.ensures in
     let new = c.start-panel.new.store in
     let first = rw (panel_lent store h half) at c.start-panel.ensures in
     let second = rw (second_lent store new h half c.start-panel.auto.store) at c.start-shore.ensures in

@@ -1,6 +1,6 @@
--- `linking::step` meets its contract: each test is the definition's, in its order.
+-- `linking::step` meets its contract: each arm is the definition's.
 use mathlib.Core.Path.{refl, sym, ap, ◌∙◌}
-use borrow.Author.Tests.{eq-eqb, ne_eqb}
+use borrow.Author.Tests.{ne_eqb}
 use Rattle.paper.specs.Sizes.{MESSAGE_MAX}
 use Rattle.numbers.specs.Numbers.{value_of}
 use Rattle.lines.specs.Lines.{MESSAGE_LINE_MAX}
@@ -13,76 +13,45 @@ use Rattle.linking.proofs.step.Goals as goal
 pub returns-then-not-is_host : goal.returns-then-not-is_host
 unfolding link_step no_record
 returns-then-not-is_host c =
-    let it = c.lead_of-lead.ensures in
     let a = c.args in
-    let bytes = a.bytes.now in
-    let rest = rest_lent bytes 1 c.lesser-from.result c.lesser-from.ensures in
-    let yes = rw it at c.if-lead-eq-AT_SHORE.true in
+    let rest = rest_lent a.bytes.now 1 c.min-from.result c.min-from.ensures in
     let host = sym (rw rest at c.is_host.ensures) ∙ c.if-not-is_host.true in
-    rw (eq-eqb _ _ yes, host) (c.no_record.ensures a.store.now)
+    rw (sym c.lead_of.ensures ∙ c.in-0.is, host) (c.no_record.ensures a.store.now)
 
-pub returns-then-lead-eq-AT_SHORE : goal.returns-then-lead-eq-AT_SHORE
+pub returns-else-not-is_host : goal.returns-else-not-is_host
 unfolding link_step STEP_MAX CALL_MAX MESSAGE_LINE_MAX MESSAGE_MAX
-returns-then-lead-eq-AT_SHORE c =
-    let it = c.lead_of-lead.ensures in
-    let a = c.args in
-    let bytes = a.bytes.now in
-    let rest = rest_lent bytes 1 c.lesser-from.result c.lesser-from.ensures in
-    let yes = rw it at c.if-lead-eq-AT_SHORE.true in
+returns-else-not-is_host c =
+    let rest = rest_lent c.args.bytes.now 1 c.min-from.result c.min-from.ensures in
     let host = sym (rw rest at c.is_host.ensures) ∙ c.if-not-is_host.false in
-    rw (eq-eqb _ _ yes, host) (refl, wider (omega arith) (rw rest at c.shore_hosts-crossed.ensures))
+    rw (sym c.lead_of.ensures ∙ c.in-0.is, host, c.good.ensures) (refl, wider (omega arith) (rw rest at c.shore_hosts.ensures))
 
-pub returns-then-lead-eq-PANEL_CLOSE : goal.returns-then-lead-eq-PANEL_CLOSE
+pub returns-in-1 : goal.returns-in-1
 unfolding link_step STEP_MAX CALL_MAX MESSAGE_LINE_MAX MESSAGE_MAX
-returns-then-lead-eq-PANEL_CLOSE c =
-    let it = c.lead_of-lead.ensures in
-    let a = c.args in
-    let bytes = a.bytes.now in
-    let rest = rest_lent bytes 1 c.lesser-from.result c.lesser-from.ensures in
-    let no1 = rw it at c.if-lead-eq-AT_SHORE.false in
-    let yes = rw it at c.if-lead-eq-PANEL_CLOSE.true in
-    let number = c.number-number.ensures ∙ ap value_of rest in
-    rw (ne_eqb _ _ no1, eq-eqb _ _ yes) (refl, wider (omega arith) (rw number at c.panel_closes-crossed.ensures))
+returns-in-1 c =
+    let number = c.number.ensures ∙ ap value_of (rest_lent c.args.bytes.now 1 c.min-from.result c.min-from.ensures) in
+    rw (sym c.lead_of.ensures ∙ c.in-1.is, c.good-in-1.ensures) (refl, wider (omega arith) (rw number at c.panel_closes.ensures))
 
-pub returns-then-lead-eq-FROM_SHORE : goal.returns-then-lead-eq-FROM_SHORE
+pub returns-in-2 : goal.returns-in-2
 unfolding link_step
-returns-then-lead-eq-FROM_SHORE c =
-    let it = c.lead_of-lead.ensures in
-    let no1 = rw it at c.if-lead-eq-AT_SHORE.false in
-    let no2 = rw it at c.if-lead-eq-PANEL_CLOSE.false in
-    let yes = rw it at c.if-lead-eq-FROM_SHORE.true in
-    rw (ne_eqb _ _ no1, ne_eqb _ _ no2, eq-eqb _ _ yes) (refl, c.host_sends-crossed.ensures)
+returns-in-2 c = rw (sym c.lead_of.ensures ∙ c.in-2.is, c.good-in-2.ensures) (refl, c.host_sends.ensures)
 
-pub returns-then-lead-eq-FROM_PANEL : goal.returns-then-lead-eq-FROM_PANEL
+pub returns-in-3 : goal.returns-in-3
 unfolding link_step
-returns-then-lead-eq-FROM_PANEL c =
-    let it = c.lead_of-lead.ensures in
-    let no1 = rw it at c.if-lead-eq-AT_SHORE.false in
-    let no2 = rw it at c.if-lead-eq-PANEL_CLOSE.false in
-    let no3 = rw it at c.if-lead-eq-FROM_SHORE.false in
-    let yes = rw it at c.if-lead-eq-FROM_PANEL.true in
-    rw (ne_eqb _ _ no1, ne_eqb _ _ no2, ne_eqb _ _ no3, eq-eqb _ _ yes) (refl, c.host_sends-crossed-then-lead-eq-FROM_PANEL.ensures)
+returns-in-3 c = rw (sym c.lead_of.ensures ∙ c.in-3.is, c.good-in-3.ensures) (refl, c.host_sends-in-3.ensures)
 
-pub returns-then-lead-eq-DROPS : goal.returns-then-lead-eq-DROPS
+pub returns-in-4 : goal.returns-in-4
 unfolding link_step
-returns-then-lead-eq-DROPS c =
-    let it = c.lead_of-lead.ensures in
-    let a = c.args in
-    let no1 = rw it at c.if-lead-eq-AT_SHORE.false in
-    let no2 = rw it at c.if-lead-eq-PANEL_CLOSE.false in
-    let no3 = rw it at c.if-lead-eq-FROM_SHORE.false in
-    let no4 = rw it at c.if-lead-eq-FROM_PANEL.false in
-    let yes = rw it at c.if-lead-eq-DROPS.true in
-    rw (ne_eqb _ _ no1, ne_eqb _ _ no2, ne_eqb _ _ no3, ne_eqb _ _ no4, eq-eqb _ _ yes) (refl, c.dropped-crossed.ensures a.ends)
+returns-in-4 c = rw (sym c.lead_of.ensures ∙ c.in-4.is, c.good-in-4.ensures) (refl, c.dropped.ensures c.args.ends)
 
-pub returns : goal.returns
+pub returns-in_default : goal.returns-in_default
 unfolding link_step no_record
-returns c =
-    let it = c.lead_of-lead.ensures in
-    let a = c.args in
-    let no1 = rw it at c.if-lead-eq-AT_SHORE.false in
-    let no2 = rw it at c.if-lead-eq-PANEL_CLOSE.false in
-    let no3 = rw it at c.if-lead-eq-FROM_SHORE.false in
-    let no4 = rw it at c.if-lead-eq-FROM_PANEL.false in
-    let no5 = rw it at c.if-lead-eq-DROPS.false in
-    rw (ne_eqb _ _ no1, ne_eqb _ _ no2, ne_eqb _ _ no3, ne_eqb _ _ no4, ne_eqb _ _ no5) (c.no_record-2.ensures a.store.now)
+returns-in_default c =
+    let lead = c.lead_of.result in
+    rw (
+      ← c.lead_of.ensures,
+      ne_eqb lead 0 (λ e. omega arith),
+      ne_eqb lead 1 (λ e. omega arith),
+      ne_eqb lead 2 (λ e. omega arith),
+      ne_eqb lead 3 (λ e. omega arith),
+      ne_eqb lead 4 (λ e. omega arith),
+    ) (c.no_record-in_default.ensures c.args.store.now)

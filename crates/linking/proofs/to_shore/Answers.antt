@@ -11,8 +11,8 @@ unfolding to_shore heard_by_shore zeros REPLY_MIN STORE PARTS PART
 returns c =
     let a = c.args in
     let store = a.store.now in
-    let half = c.lesser-half.ensures in
-    let h = c.lesser-half.result in
+    let half = c.min-half.ensures in
+    let h = c.min-half.result in
     let new = c.receive-given.new.store in
     let got = rw (shore_lent store h half) at c.receive-given.ensures in
     let back = shore_back store new h half in

@@ -16,4 +16,4 @@ returns c =
     let f2 = desk_line_of a.place a.said 0 in
     let p1 = c.end_word-worded.ensures in
     let p2 = c.desk_line.ensures in
-    record { value = (ends f1 f2 p1.value.0 p2.value.0, omega (arith, p1.value.1, p2.value.1)); out_after = behind a.out.now _ _ f1 f2 _ _ p1.value.0 p1.out_after c.lesser-behind.ensures p2.out_after }
+    record { value = (ends f1 f2 p1.value.0 p2.value.0, omega (arith, p1.value.1, p2.value.1)); out_after = behind a.out.now _ _ f1 f2 _ _ p1.value.0 p1.out_after c.min-behind.ensures p2.out_after }

@@ -25,7 +25,7 @@ returns-then-not-is_lent c = let both = not_lent _ _ _ (sym c.is_lent.ensures.0 
 pub fill-requires : goal.fill-requires
 fill-requires c =
     let size = lent_size c.args.log c.args.room.now (sym c.is_lent.ensures.0 ∙ c.if-not-is_lent.false) in
-    record { number_bound = (omega arith, (omega arith, omega arith)); in_bounds = (size, (omega (arith, size), c.requires)) }
+    (size, (omega (arith, size), c.requires))
 
 pub returns-then-log-eq0 : goal.returns-then-log-eq0
 returns-then-log-eq0 c =
@@ -52,7 +52,7 @@ fill-requires-2 c =
     let lent = sym c.is_lent.ensures.0 ∙ c.if-not-is_lent.false in
     let size = lent_size a.log a.room.now lent in
     let last = lent_last a.log a.room.now lent c.if-log-eq0.false in
-    record { number_bound = c.first_touched-first.ensures.number_bound; in_bounds = (size, (omega (arith, size, last.0, last.1.0), c.requires)) }
+    (size, (omega (arith, size, last.0, last.1.0), c.requires))
 
 pub returns : goal.returns
 unfolding last_in last_at
@@ -61,8 +61,8 @@ returns c =
     let lent = sym c.is_lent.ensures.0 ∙ c.if-not-is_lent.false in
     let at = BLOCK * (a.log.held - 1) in
     let first = rw (from_to a.room.now at BLOCK) at c.first_touched-first.ensures in
-    let so_far = sym (front_in c.first_touched-first.result.used at a.room.now first.number_bound.1.0) ∙ first.number_value.1.0 in
-    let fills = is_filled a.log a.room.now (a.head.now ++ a.body.now) _ _ _ lent first.number_value.0 so_far first.number_value.1.1 in
+    let so_far = sym (front_in c.first_touched-first.result.used at a.room.now c.first_touched-first.result.fits.1.0) ∙ first.1.0 in
+    let fills = is_filled a.log a.room.now (a.head.now ++ a.body.now) _ _ _ lent first.0 so_far first.1.1 in
     let filled = c.fill-2.ensures in
     record { value = filled.value ∙ fills.0; room_after = filled.room_after ∙ fills.1 }
 

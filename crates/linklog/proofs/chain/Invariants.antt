@@ -1,12 +1,8 @@
 -- `linklog::chain` meets its contract: each turn lays a block behind those before.
-use Prim.Native.Nat.{◌+◌, ◌-◌}
-use lib.ListN.{length}
-use Rattle.blocks.specs.Block.{PAYLOAD}
+use Prim.Native.Nat.{◌+◌, ◌*◌}
+use Rattle.blocks.specs.Block.{BLOCK, PAYLOAD}
 use Rattle.linklog.proofs.Chains.{Left}
 use Rattle.linklog.proofs.chain.Given as goal
 
-abbrev pub invariant-loop-at : goal.invariant-loop-at
-invariant-loop-at l = Left l.initial.room l.number l.place l.payload l.room l.at l.to l.next l.first
-
-abbrev pub decreases-loop-at : goal.decreases-loop-at
-decreases-loop-at l = length l.payload + PAYLOAD - l.at
+abbrev pub invariant-loop-i : goal.invariant-loop-i
+invariant-loop-i l = Left l.initial.room l.number l.place l.payload l.room (PAYLOAD * l.i) (BLOCK * l.i) (l.number + l.i) l.first

@@ -3,14 +3,14 @@ use Rattle.linklog.specs.Turns.{course_in}
 use Rattle.linklog.proofs.enter.Goals as goal
 
 pub go_on-requires : goal.go_on-requires
-go_on-requires c = c.requires.room_value
+go_on-requires c = c.requires
 
 pub returns-then-reader : goal.returns-then-reader
 unfolding course_in
 returns-then-reader c = rw c.if-reader.true (record { value = c.go_on.ensures.value; room_after = c.go_on.ensures.room_after })
 
 pub go_in-requires : goal.go_in-requires
-go_in-requires c = record { room_value = c.requires.room_value; block_value = c.requires.block_value }
+go_in-requires c = c.requires
 
 pub returns : goal.returns
 unfolding course_in

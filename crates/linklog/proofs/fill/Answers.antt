@@ -10,7 +10,7 @@ overflow_cast-blocks c =
     let a = c.args in
     omega (
       arith,
-      few_blocks a.first.used (length a.head.now + length a.body.now) c.requires.number_bound.1.0 c.requires.in_bounds.1.1,
+      few_blocks a.first.used (length a.head.now + length a.body.now) c.args.first.fits.1.0 c.requires.1.1,
       c.blocks_for-count.ensures,
     )
 
@@ -19,22 +19,22 @@ overflow_add-blocks c =
     let a = c.args in
     omega (
       arith,
-      few_blocks a.first.used (length a.head.now + length a.body.now) c.requires.number_bound.1.0 c.requires.in_bounds.1.1,
+      few_blocks a.first.used (length a.head.now + length a.body.now) c.args.first.fits.1.0 c.requires.1.1,
       c.blocks_for-count.ensures,
-      c.requires.number_bound.0,
+      c.args.first.fits.0,
     )
 
 pub returns-then-blocks-gt-BLOCKS_MAX : goal.returns-then-blocks-gt-BLOCKS_MAX
 returns-then-blocks-gt-BLOCKS_MAX c =
     let a = c.args in
-    let both = log_full a.room.now a.from a.first.used a.head.now a.body.now c.requires.in_bounds.1.0 c.requires.number_bound.1.0 a.first.number
+    let both = log_full a.room.now a.from a.first.used a.head.now a.body.now c.requires.1.0 c.args.first.fits.1.0 a.first.number
     a.first.place _ c.blocks_for-count.ensures c.if-blocks-gt-BLOCKS_MAX.true in record { value = both.0; room_after = both.1 }
 
 pub put-requires : goal.put-requires
-put-requires c = record { used_bound = c.requires.number_bound.1; in_bounds = c.requires.in_bounds; body_bound = omega (arith, c.if-blocks-gt-BLOCKS_MAX.false, c.blocks_for-count.ensures) }
+put-requires c = record { in_bounds = c.requires; body_bound = omega (arith, c.if-blocks-gt-BLOCKS_MAX.false, c.blocks_for-count.ensures) }
 
 pub returns : goal.returns
 returns c =
     let a = c.args in
-    let both = log_holds a.room.now a.from a.first.used a.head.now a.body.now c.requires.in_bounds.1.0 c.requires.number_bound.1.0 a.first.number
+    let both = log_holds a.room.now a.from a.first.used a.head.now a.body.now c.requires.1.0 c.args.first.fits.1.0 a.first.number
     a.first.place _ c.blocks_for-count.ensures _ c.if-blocks-gt-BLOCKS_MAX.false c.put.ensures in record { value = both.0; room_after = both.1 }

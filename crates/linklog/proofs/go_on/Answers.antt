@@ -13,37 +13,37 @@ use Rattle.linklog.proofs.go_on.Goals as goal
 
 pub bring-requires : goal.bring-requires
 bring-requires c =
-    let says = reader_says c.args.reader c.args.room.now c.requires.0 in
+    let says = reader_says c.args.reader c.args.room.now c.requires in
     omega (arith, says.0, says.1.0, says.1.1.0)
 
 pub overflow_add-held : goal.overflow_add-held
 overflow_add-held c =
-    let says = reader_says c.args.reader c.args.room.now c.requires.0 in
-    omega (arith, says.1.1.1, c.used-used.ensures, c.requires.1.1.1)
+    let says = reader_says c.args.reader c.args.room.now c.requires in
+    omega (arith, says.1.1.1, (c.from-used.ensures ∙ c.used.ensures), c.args.good.fits)
 
 -- the room, once the payload is laid, which has room for what is to be gone through
 pub slice_bounds-go_through-end : goal.slice_bounds-go_through-end
 slice_bounds-go_through-end c =
-    let says = reader_says c.args.reader c.args.room.now c.requires.0 in
+    let says = reader_says c.args.reader c.args.room.now c.requires in
     let long = ap length c.copy_at.ensures ∙ length_laid c.bring.new.room c.args.reader.behind _ ∙ ap length c.bring.ensures ∙ length_laid c.args.room.now 0 _ in
-    omega (arith, long, says.0, says.1.1.1, c.used-used.ensures, c.requires.1.1.1)
+    omega (arith, long, says.0, says.1.1.1, (c.from-used.ensures ∙ c.used.ensures), c.args.good.fits)
 
 pub slice_bounds-go_through-end-2 : goal.slice_bounds-go_through-end-2
 slice_bounds-go_through-end-2 c =
-    let says = reader_says c.args.reader c.args.room.now c.requires.0 in
+    let says = reader_says c.args.reader c.args.room.now c.requires in
     let long = ap length c.copy_at.ensures ∙ length_laid c.bring.new.room c.args.reader.behind _ ∙ ap length c.bring.ensures ∙ length_laid c.args.room.now 0 _ in
-    sym (length-take-le _ _ (omega (arith, long, says.0, says.1.1.1, c.used-used.ensures, c.requires.1.1.1)))
+    sym (length-take-le _ _ (omega (arith, long, says.0, says.1.1.1, (c.from-used.ensures ∙ c.used.ensures), c.args.good.fits)))
 
 pub go_through-requires : goal.go_through-requires
-go_through-requires c = (c.requires.1.0, omega (arith, c.used-used.ensures, c.requires.1.1.1))
+go_through-requires c = (c.args.good.numbered, omega (arith, (c.from-used.ensures ∙ c.used.ensures), c.args.good.fits))
 
 pub returns : goal.returns
 unfolding entered end_after brought_by
 returns c =
     let a = c.args in
-    let says = reader_says a.reader a.room.now c.requires.0 in
+    let says = reader_says a.reader a.room.now c.requires in
     -- the room, once the payload is laid
-    let joined = joins a.room.now a.block.now a.reader.whole a.reader.behind c.used-used.result c.used-used.ensures
-    c.requires.1.1.0 c.requires.1.1.1 (omega (arith, says.0, says.1.0, says.1.1.0)) (omega (arith, says.0, says.1.1.1)) _ _
+    let joined = joins a.room.now a.good.block.now a.reader.whole a.reader.behind c.from-used.result (c.from-used.ensures ∙ c.used.ensures)
+    c.args.good.long c.args.good.fits (omega (arith, says.0, says.1.0, says.1.1.0)) (omega (arith, says.0, says.1.1.1)) _ _
     c.bring.ensures c.copy_at.ensures in
-    record { value = rw (joined.1, c.used-used.ensures) at c.go_through.ensures; room_after = joined.0 }
+    record { value = rw (joined.1, (c.from-used.ensures ∙ c.used.ensures)) at c.go_through.ensures; room_after = joined.0 }

@@ -8,15 +8,15 @@ pub returns-then-whole-eq0 : goal.returns-then-whole-eq0
 returns-then-whole-eq0 c =
     let a = c.args in
     let input = a.input.now in
-    through_none input _ c.whole_records-whole.ensures.0 _ (rw (to_end input c.whole_records-whole.result) at c.is_stray-within.ensures)
+    through_none input _ c.whole_records-whole.ensures.0 _ (rw (to_end input c.whole_records-whole.result) at c.is_stray.ensures)
     a.end a.number a.used c.if-whole-eq0.true
 
-pub returns : goal.returns
-returns c =
+pub returns-else-whole-eq0 : goal.returns-else-whole-eq0
+returns-else-whole-eq0 c =
     let a = c.args in
     let input = a.input.now in
-    through_some input _ c.whole_records-whole.ensures.0 _ (rw (to_end input c.whole_records-whole.result) at c.is_stray-within.ensures)
-    a.end a.number a.used _ c.if-whole-eq0.false (omega (arith, c.lesser.ensures))
+    through_some input _ c.whole_records-whole.ensures.0 _ (rw (to_end input c.whole_records-whole.result) at c.is_stray.ensures)
+    a.end a.number a.used _ c.if-whole-eq0.false c.saturating_sub.ensures
 
 pub overflow_sub-behind : goal.overflow_sub-behind
 overflow_sub-behind c = omega (arith, c.whole_records-whole.ensures.1)
@@ -33,8 +33,5 @@ slice_bounds-is_stray-end c = omega (arith, c.whole_records-whole.ensures.1)
 pub overflow_add-result : goal.overflow_add-result
 overflow_add-result c = omega (arith, c.requires.0)
 
-pub overflow_sub-result : goal.overflow_sub-result
-overflow_sub-result c = omega (arith, c.lesser.ensures)
-
 pub overflow_cast-result : goal.overflow_cast-result
-overflow_cast-result c = omega (arith, c.requires.1)
+overflow_cast-result c = record { fits = omega (arith, c.requires.1, c.saturating_sub.ensures) }

@@ -20,6 +20,6 @@ returns-then-not-may_be_last c = (
 
 pub returns : goal.returns
 returns c = let last = c.if-not-may_be_last.false in (
-  rests_with _ _ c.if-room-lt-ROOM.false _ c.used.ensures (sym c.may_be_last.ensures.0 ∙ last),
+  rests_with _ _ c.if-room-lt-ROOM.false _ (c.from.ensures ∙ c.used.ensures) (sym c.may_be_last.ensures.0 ∙ last),
   λ e. c.may_be_last.ensures.1 last,
 )

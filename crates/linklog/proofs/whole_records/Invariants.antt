@@ -5,7 +5,7 @@ use Rattle.linklog.proofs.Walked.{Gone}
 use Rattle.linklog.proofs.whole_records.Given as goal
 
 abbrev pub invariant-loop-n : goal.invariant-loop-n
-invariant-loop-n l = Gone l.input l.at l.n
+invariant-loop-n l = Gone l.input l.at
 
 abbrev pub decreases-loop-n : goal.decreases-loop-n
 decreases-loop-n l = length l.input - l.at

@@ -1,13 +1,11 @@
--- `listeners::listed` meets its contract. No name before the place is the one
--- that is asked for, so those from there on decide.
+-- `listeners::listed` meets its contract. No name before the rest is the one that is asked for, so those of the rest decide.
 use mathlib.Core.Path.{◌≡◌}
-use Prim.Native.Nat.{◌≤◌, ◌-◌}
-use lib.ListN.{length, drop}
+use lib.ListN.{length}
 use Rattle.listeners.specs.Listeners.{names, is_one_of, is_listed}
 use Rattle.listeners.proofs.listed.Given as goal
 
-abbrev pub invariant-loop-at : goal.invariant-loop-at
-invariant-loop-at l = (l.at ≤ length l.list) × (is_listed l.list l.name ≡ is_one_of (names (drop l.at l.list)) l.name)
+abbrev pub invariant-loop-first : goal.invariant-loop-first
+invariant-loop-first l = is_listed l.list l.name ≡ is_one_of (names l.rest) l.name
 
-abbrev pub decreases-loop-at : goal.decreases-loop-at
-decreases-loop-at l = length l.list - l.at
+abbrev pub decreases-loop-first : goal.decreases-loop-first
+decreases-loop-first l = length l.rest

@@ -1,27 +1,17 @@
-use native.Mathlib.Nat.{add-zero}
-use borrow.Author.Tests.{eq-eqb, ne_eqb}
+-- `lists::first_of` meets its contract: the place is the library's first index.
+use Rattle.std.proofs.Common.{rules, ◌≡◌, length, ap, ◌∙◌}
+use Rattle.std.proofs.lemmas.Iterator.{YieldsList-from_slice}
+use Rattle.std.proofs.lemmas.Iterator.Search.{position_from_yields_List}
+use Rattle.std.specs.List.{position}
+use Rattle.std.specs.Option.{unwrap_or}
+use borrow.Author.Tests.{tests}
 use Rattle.lists.specs.Bytes.{is_byte}
-use Rattle.lists.proofs.Places.{search_hit, search_miss, search_end}
-use native.Mathlib.Omega.{arith}
+use Rattle.lists.proofs.Places.{place_position}
 use Rattle.lists.proofs.first_of.Goals as goal
-
-pub loop-i-init : goal.loop-i-init
-loop-i-init c = (omega arith, add-zero _)
-
-pub returns-then-bytes-i : goal.returns-then-bytes-i
-returns-then-bytes-i c =
-    let l = c.loop-i in
-    let a = c.args in
-    search_hit (is_byte a.byte) a.bytes.now l.i 0 (omega arith) (eq-eqb _ _ c.if-bytes-i.true) l.invariant.1
-
-pub loop-i-preserved : goal.loop-i-preserved
-loop-i-preserved c =
-    let l = c.loop-i in
-    let a = c.args in
-    (omega arith, search_miss (is_byte a.byte) a.bytes.now l.i 0 (omega arith) (ne_eqb _ _ c.if-bytes-i.false) l.invariant.1)
 
 pub returns : goal.returns
 returns c =
-    let l = c.loop-i in
-    let a = c.args in
-    search_end (is_byte a.byte) a.bytes.now l.i (omega arith) l.invariant.1
+    let bytes = c.args.bytes.now in
+    let found : c.position.result ≡ position (is_byte c.args.byte) bytes =
+    position_from_yields_List (is_byte c.args.byte) _ _ c.position.result c.position.ensures.ran (YieldsList-from_slice bytes cc) (λ x b q k. search (rules, tests)) in
+    c.unwrap_or.ensures ∙ ap (λ o. unwrap_or o (length bytes)) found ∙ place_position (is_byte c.args.byte) bytes

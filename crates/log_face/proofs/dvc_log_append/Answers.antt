@@ -14,12 +14,13 @@ returns-then-log-ge-LOGS c =
     record { value = back ∙ c.refused.ensures ∙ not_one.0; room_after = not_one.1 }
 
 pub returns : goal.returns
+unfolding log_number
 returns c =
-    let back = to_z-of_z {w = w64} {z = c.log_number.result} (record { sfits = c.log_number.type_inv }) in
+    let back = to_z-of_z {w = w64} {z = c.as_number.result} (record { sfits = c.as_number.type_inv }) in
     let is = c.log_in.ensures in
     let one = a_log _ _ _ c.if-log-ge-LOGS.false in
     let did = rw is at c.append.ensures in
-    record { value = back ∙ c.log_number.ensures ∙ ap log_number did.value ∙ one.0; room_after = did.room_after ∙ one.1 }
+    record { value = back ∙ c.as_number.ensures ∙ ap log_number did.value ∙ one.0; room_after = did.room_after ∙ one.1 }
 
 pub log_in-requires : goal.log_in-requires
 log_in-requires c = omega (arith, c.if-log-ge-LOGS.false)

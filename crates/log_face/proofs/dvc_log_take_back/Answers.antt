@@ -13,9 +13,10 @@ returns-then-read-ge-READS c =
     record { value = back ∙ c.refused.ensures ∙ not_one.0; room_after = not_one.1 }
 
 pub returns : goal.returns
+unfolding log_number
 returns c =
-    let back = to_z-of_z {w = w64} {z = c.log_number.result} (record { sfits = c.log_number.type_inv }) in
+    let back = to_z-of_z {w = w64} {z = c.as_number.result} (record { sfits = c.as_number.type_inv }) in
     let is = c.read_in-reader.ensures in
     let one = a_back _ _ c.if-read-ge-READS.false in
     let did = rw is at c.take_back.ensures in
-    record { value = back ∙ c.log_number.ensures ∙ ap log_number did.value ∙ one.0; room_after = did.room_after ∙ one.1 }
+    record { value = back ∙ c.as_number.ensures ∙ ap log_number did.value ∙ one.0; room_after = did.room_after ∙ one.1 }

@@ -3,16 +3,16 @@ use mathlib.Core.Path.{◌∙◌}
 use lib.ListN.{length-drop}
 use Rattle.lists.proofs.Laid.{to_end}
 use Rattle.records.specs.Records.{LENGTH}
+use Rattle.lines.proofs.Pens.{at_most}
 use Rattle.logging.proofs.Inputs.{announced_is, is_close_law, is_pdu}
 use native.Mathlib.Omega.{arith}
 use Rattle.logging.proofs.line.Goals as goal
 
-pub returns-then-announced-eq-CLOSE : goal.returns-then-announced-eq-CLOSE
-returns-then-announced-eq-CLOSE c =
+pub returns-then-from-eq-CLOSE : goal.returns-then-from-eq-CLOSE
+returns-then-from-eq-CLOSE c =
     let bytes = c.args.bytes.now in
-    let did = c.close_line.ensures in
-    rw (is_close_law bytes _ (c.short_at-announced.ensures ∙ announced_is bytes) c.if-announced-eq-CLOSE.true)
-    (record { value = (did.value.0, omega (arith, did.value.1, c.requires.0)); out_after = did.out_after })
+    rw (is_close_law bytes _ (c.from.ensures ∙ c.short_at-announced.ensures ∙ announced_is bytes) c.if-from-eq-CLOSE.true)
+    (at_most _ c.close_line.ensures (omega (arith, c.requires.0)))
 
 pub pdu_line-requires : goal.pdu_line-requires
 pdu_line-requires c =
@@ -22,6 +22,5 @@ pdu_line-requires c =
 pub returns : goal.returns
 returns c =
     let bytes = c.args.bytes.now in
-    let did = rw (to_end bytes LENGTH) at c.pdu_line.ensures in
-    rw (is_pdu bytes _ (c.short_at-announced.ensures ∙ announced_is bytes) c.if-announced-eq-CLOSE.false)
-    (record { value = (did.value.0, omega (arith, did.value.1, length-drop LENGTH bytes, c.requires.0)); out_after = did.out_after })
+    rw (is_pdu bytes _ (c.from.ensures ∙ c.short_at-announced.ensures ∙ announced_is bytes) c.if-from-eq-CLOSE.false)
+    (at_most _ (rw (to_end bytes LENGTH) at c.pdu_line.ensures) (omega (arith, length-drop LENGTH bytes, c.requires.0)))

@@ -5,8 +5,8 @@ use lib.ListN.{length}
 use Rattle.logging.proofs.Said.{Left}
 use Rattle.logging.proofs.lines_of.Given as goal
 
-abbrev pub invariant-loop-at : goal.invariant-loop-at
-invariant-loop-at l = Left l.records l.initial.out l.out l.at l.used
+abbrev pub invariant-loop-n : goal.invariant-loop-n
+invariant-loop-n l = Left l.records l.initial.pen l.pen l.at
 
-abbrev pub decreases-loop-at : goal.decreases-loop-at
-decreases-loop-at l = length l.records - l.at
+abbrev pub decreases-loop-n : goal.decreases-loop-n
+decreases-loop-n l = length l.records - l.at

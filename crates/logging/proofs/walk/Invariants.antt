@@ -5,8 +5,8 @@ use lib.ListN.{length}
 use Rattle.logging.proofs.Walks.{Left}
 use Rattle.logging.proofs.walk.Given as goal
 
-abbrev pub invariant-loop-at : goal.invariant-loop-at
-invariant-loop-at l = Left l.initial.next l.input l.initial.room l.initial.out l.room l.out l.next l.at l.used
+abbrev pub invariant-loop-n : goal.invariant-loop-n
+invariant-loop-n l = Left l.initial.next l.input l.initial.room l.initial.out l.room l.out l.next l.at l.used
 
-abbrev pub decreases-loop-at : goal.decreases-loop-at
-decreases-loop-at l = length l.input - l.at
+abbrev pub decreases-loop-n : goal.decreases-loop-n
+decreases-loop-n l = length l.input - l.at

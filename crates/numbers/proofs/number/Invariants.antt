@@ -1,11 +1,8 @@
 -- `numbers::number` meets its contract: the value is that of the bytes from `at` up to the fourth.
 use mathlib.Core.Path.{◌≡◌}
-use Prim.Native.Nat.{◌-◌, ◌≤◌}
+use Prim.Native.Nat.{◌-◌}
 use Rattle.numbers.specs.Numbers.{value_at}
 use Rattle.numbers.proofs.number.Given as goal
 
 abbrev pub invariant-loop-at : goal.invariant-loop-at
-invariant-loop-at l = (l.at ≤ 4) × (l.value ≡ value_at l.bytes l.at (4 - l.at))
-
-abbrev pub decreases-loop-at : goal.decreases-loop-at
-decreases-loop-at l = l.at
+invariant-loop-at l = l.value ≡ value_at l.bytes l.at (4 - l.at)

@@ -2,10 +2,10 @@
 use Rattle.packing.specs.Packing.{refused_word, channel_for}
 use Rattle.packing.proofs.pack_refusal.Goals as goal
 
-pub returns-in-NoChannel : goal.returns-in-NoChannel
+pub returns-in-None : goal.returns-in-None
 unfolding refused_word channel_for
-returns-in-NoChannel c = rw (c.in-NoChannel.is, ← c.refusal_number-which.ensures) c.pack.ensures
+returns-in-None c = rw (c.in-None.is, ← c.refusal_number-which.ensures) c.pack.ensures
 
-pub returns-in-Channel : goal.returns-in-Channel
+pub returns-in-Some : goal.returns-in-Some
 unfolding refused_word channel_for
-returns-in-Channel c = rw (c.in-Channel.is, ← c.refusal_number-which.ensures) c.pack-in-Channel.ensures
+returns-in-Some c = rw (c.in-Some.is, ← c.refusal_number-which.ensures) c.pack-in-Some.ensures

@@ -1,21 +1,20 @@
 -- `planning::say` meets its contract: each arm is a case of the definition, with each part laid behind the one before.
-use Rattle.lists.proofs.Laid.{laid_next}
-use Rattle.lines.proofs.Ends.{ends}
-use Rattle.planning.specs.Lines.{SUMS, four_line, last_line}
-use Rattle.std.proofs.Common.{arith}
+use Rattle.std.proofs.Common.{arith, rules}
+use Rattle.lines.proofs.Pens.{then}
+use Rattle.planning.specs.Lines.{last_line}
 use Rattle.planning.proofs.say.Goals as goal
+use Rattle.planning.proofs.say.Goals.{in-Ok, in-Err}
 
-pub returns-in-Added : goal.returns-in-Added
+pub returns-clause-value : goal.returns-clause-value
 unfolding last_line
-returns-in-Added c =
-    let out = c.args.out.now in
-    let f2 = four_line _ _ _ _ in
-    let p1 = c.text-worded.ensures in
-    let p2 = c.four.ensures in
-    rw c.in-Added.is (record { value = (ends SUMS f2 p1.value p2.value.0, omega (arith, p1.value, p2.value.1)); out_after = laid_next out _ _ SUMS f2 _ p1.value p1.out_after p2.out_after })
+returns-clause-value c = elim c.match-last.branch [
+  | in-Ok w ↦ let t = then w.text.ensures w.four.ensures in rw (w.in-Ok.is, w.pen-is) (omega (arith, t.at, t.within))
+  | in-Err w ↦ let t = rw w.refusal_number.ensures at w.refused.ensures in rw (w.in-Err.is, w.pen-is) (omega (arith, t.at, t.within))
+]
 
-pub returns-in-Refused : goal.returns-in-Refused
+pub returns-clause-out_after : goal.returns-clause-out_after
 unfolding last_line
-returns-in-Refused c =
-    let done = rw c.refusal_number.ensures at c.refused.ensures in
-    rw c.in-Refused.is (record { value = (done.value.0, omega (arith, done.value.1)); out_after = done.out_after })
+returns-clause-out_after c = elim c.match-last.branch [
+  | in-Ok w ↦ rw w.in-Ok.is (search (rules, w.pen-is, then w.text.ensures w.four.ensures))
+  | in-Err w ↦ rw w.in-Err.is (search (rules, w.pen-is, rw w.refusal_number.ensures at w.refused.ensures))
+]

@@ -9,7 +9,7 @@ unfolding rest_of
 returns c =
     let a = c.args in
     let input = a.input.now in
-    let walked = c.walk-walked.ensures in
+    let walked = c.walk-taken.ensures in
     let long = ap length c.to_front.ensures ∙ length_laid input 0 _ in
     rw (long, sym walked.course_value.0, sym walked.course_value.1.0, sym walked.taken_value.0, length-drop _ input)
     (record { value = (refl, (omega arith, walked.course_value.1.1)); input_after = c.to_front.ensures; out_after = walked.out_after })

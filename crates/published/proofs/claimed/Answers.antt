@@ -1,51 +1,54 @@
 -- `published::claimed` meets its contract: the word, or four digits, of which each pair must be one.
-use mathlib.Core.Path.{◌≡◌, sym, ◌∙◌}
-use Prim.Native.Nat.{◌+◌, ◌*◌}
+use Rattle.std.proofs.Common.{◌≡◌, ◌+◌, ◌*◌, sym, ◌∙◌, arith, length}
 use borrow.Author.Tests.{eq-eqb, ne_eqb}
-use native.Mathlib.Omega.{arith}
-use lib.ListN.{length, get_or}
-use Rattle.listeners.proofs.Matches.{compared}
-use Rattle.published.specs.Claims.{UNDEFINED, pair_in, four_in, claim_behind}
-use Rattle.published.proofs.Numbers.{is_number, no_number, pair_small}
+use Rattle.published.specs.Claims.{UNDEFINED, four_in, claim_behind}
+use Rattle.published.proofs.Numbers.{same_pointwise}
 use Rattle.published.proofs.claimed.Goals as goal
 
-pub returns-then-same : goal.returns-then-same
+pub returns-then-eq : goal.returns-then-eq
 unfolding claim_behind
-returns-then-same c =
+returns-then-eq c =
     let rest = c.args.rest.now in
-    let is = compared rest UNDEFINED _ c.same.ensures.0 c.same.ensures.1 in
-    rw (sym is ∙ c.if-same.true)
+    let word = rw c.as_slice.ensures at c.eq.ensures ∙ same_pointwise rest UNDEFINED in
+    rw (sym word ∙ c.if-eq.true)
 
-pub returns-then-rest-ne4 : goal.returns-then-rest-ne4
+pub returns-in_default : goal.returns-in_default
 unfolding claim_behind
-returns-then-rest-ne4 c =
+returns-in_default c =
     let rest = c.args.rest.now in
-    let is = compared rest UNDEFINED _ c.same.ensures.0 c.same.ensures.1 in
-    rw (sym is ∙ c.if-same.false, ne_eqb (length rest) 4 c.if-rest-ne4.true)
+    let word = rw c.as_slice.ensures at c.eq.ensures ∙ same_pointwise rest UNDEFINED in
+    rw (sym word ∙ c.if-eq.false, ne_eqb (length rest) 4 (λ e. omega arith))
 
-pub returns-then-high-eq-NO_PAIR : goal.returns-then-high-eq-NO_PAIR
-unfolding claim_behind four_in
-returns-then-high-eq-NO_PAIR c =
+pub returns-in_default-2 : goal.returns-in_default-2
+unfolding claim_behind
+returns-in_default-2 c =
     let rest = c.args.rest.now in
-    let is = compared rest UNDEFINED _ c.same.ensures.0 c.same.ensures.1 in
-    let high = no_number 256 (pair_in (get_or rest 0 0) (get_or rest 1 0)) _ (pair_small _ _) c.pair-high.ensures.0 c.if-high-eq-NO_PAIR.true in
-    rw (sym is ∙ c.if-same.false, eq-eqb (length rest) 4 c.if-rest-ne4.false, high)
+    let word = rw c.as_slice.ensures at c.eq.ensures ∙ same_pointwise rest UNDEFINED in
+    rw (sym word ∙ c.if-eq.false, ne_eqb (length rest) 4 (λ e. omega arith))
 
-pub returns-then-low-eq-NO_PAIR : goal.returns-then-low-eq-NO_PAIR
+pub returns-in_err-high : goal.returns-in_err-high
 unfolding claim_behind four_in
-returns-then-low-eq-NO_PAIR c =
+returns-in_err-high c =
     let rest = c.args.rest.now in
-    let is = compared rest UNDEFINED _ c.same.ensures.0 c.same.ensures.1 in
-    let high = is_number 256 (pair_in (get_or rest 0 0) (get_or rest 1 0)) _ c.pair-high.ensures.0 c.if-high-eq-NO_PAIR.false in
-    let low = no_number 256 (pair_in (get_or rest 2 0) (get_or rest 3 0)) _ (pair_small _ _) c.pair-low.ensures.0 c.if-low-eq-NO_PAIR.true in
-    rw (sym is ∙ c.if-same.false, eq-eqb (length rest) 4 c.if-rest-ne4.false, high, low)
+    let word = rw c.as_slice.ensures at c.eq.ensures ∙ same_pointwise rest UNDEFINED in
+    let off = sym c.pair.ensures ∙ c.in_err-high.was in
+    c.from_residual.ensures ∙ rw (sym word ∙ c.if-eq.false, eq-eqb (length rest) 4 (omega arith), off)
+
+pub returns-in_err-low : goal.returns-in_err-low
+unfolding claim_behind four_in
+returns-in_err-low c =
+    let rest = c.args.rest.now in
+    let word = rw c.as_slice.ensures at c.eq.ensures ∙ same_pointwise rest UNDEFINED in
+    let high = sym c.pair.ensures ∙ c.in_ok-high.was in
+    let off = sym c.pair-2.ensures ∙ c.in_err-low.was in
+    c.from_residual-in_err-low.ensures ∙ rw (sym word ∙ c.if-eq.false, eq-eqb (length rest) 4 (omega arith), high, off)
 
 pub returns : goal.returns
 unfolding claim_behind four_in
 returns c =
     let rest = c.args.rest.now in
-    let is = compared rest UNDEFINED _ c.same.ensures.0 c.same.ensures.1 in
-    let high = is_number 256 (pair_in (get_or rest 0 0) (get_or rest 1 0)) _ c.pair-high.ensures.0 c.if-high-eq-NO_PAIR.false in
-    let low = is_number 256 (pair_in (get_or rest 2 0) (get_or rest 3 0)) _ c.pair-low.ensures.0 c.if-low-eq-NO_PAIR.false in
-    let turned : c.pair-high.result * 256 + c.pair-low.result ≡ 256 * c.pair-high.result + c.pair-low.result = omega arith in
-    rw (sym is ∙ c.if-same.false, eq-eqb (length rest) 4 c.if-rest-ne4.false, high, low, turned)
+    let word = rw c.as_slice.ensures at c.eq.ensures ∙ same_pointwise rest UNDEFINED in
+    let high = sym c.pair.ensures ∙ c.in_ok-high.was in
+    let low = sym c.pair-2.ensures ∙ c.in_ok-low.was in
+    let turned : c.from_be_bytes.result ≡ 256 * c.in_ok-high.high + c.in_ok-low.low = omega (arith, c.from_be_bytes.ensures) in
+    rw (sym word ∙ c.if-eq.false, eq-eqb (length rest) 4 (omega arith), high, low, turned)

@@ -1,20 +1,18 @@
 -- `published::theirs` meets its contract: each arm is a case of the definition.
-use mathlib.Core.Path.{refl}
-use Rattle.lists.specs.Bytes.{laid}
+use Rattle.std.proofs.Common.{arith}
+use Rattle.lines.proofs.Pens.{nothing, at_most}
 use Rattle.published.specs.Comparing.{their_text}
-use native.Mathlib.Omega.{arith}
 use Rattle.published.proofs.theirs.Goals as goal
 
-pub returns-in-Point : goal.returns-in-Point
+pub returns-in-Some-Some : goal.returns-in-Some-Some
 unfolding their_text
-returns-in-Point c =
-    let did = c.point_text.ensures in
-    rw c.in-Point.is (record { value = did.value; out_after = did.out_after })
+returns-in-Some-Some c = rw (c.in-Some-Some.is, rw c.in-Some-Some.is at c.in-Some-Some.field-0-is) c.point_text.ensures
 
-pub returns-in-Undefined : goal.returns-in-Undefined
+pub returns-in-Some-None : goal.returns-in-Some-None
 unfolding their_text
-returns-in-Undefined c = rw c.in-Undefined.is (record { value = (c.text.ensures.value, omega (arith, c.text.ensures.value)); out_after = c.text.ensures.out_after })
+returns-in-Some-None c =
+    rw (c.in-Some-None.is, rw c.in-Some-None.is at c.in-Some-None.field-0-is) (at_most _ c.text.ensures (omega arith))
 
-pub returns-in-NotSuch : goal.returns-in-NotSuch
-unfolding their_text laid
-returns-in-NotSuch c = rw c.in-NotSuch.is (record { value = (refl, omega arith); out_after = refl })
+pub returns-in-None : goal.returns-in-None
+unfolding their_text
+returns-in-None c = rw c.in-None.is (at_most _ (nothing _) (omega arith))

@@ -1,74 +1,43 @@
-use mathlib.Core.Path.{◌≡◌, refl, sym, ap, ◌∙◌}
-use Prim.Native.Nat.{◌+◌, ◌≤◌}
-use native.Mathlib.Omega.{arith}
-use lib.ListN.{length, drop}
-use Rattle.lists.specs.Bytes.{is_byte}
-use Rattle.lists.specs.Places.{place}
-use Rattle.lists.specs.Lines.{LF, lines_in}
-use Rattle.lists.proofs.Laid.{to_end}
+use Rattle.std.proofs.Common.{◌≡◌, ◌∙◌, ◌+◌, refl, sym, ap, arith, is_some, ℕ}
+use Rattle.std.specs.Prelude.{Some}
+use Rattle.lists.specs.Lines.{lines_in}
+use Rattle.lists.proofs.Cuts.{lines_first}
 use Rattle.codepage.specs.Points.{BYTES}
-use Rattle.published.specs.Claims.{is_such}
 use Rattle.published.specs.Comparing.{wrong_from}
-use Rattle.published.proofs.Files.{no_lines, one_line, line_there, missing, complete, one_more, not_such, too_many}
+use Rattle.published.proofs.Files.{empty, no_lines, missing, complete, one_more, not_such, too_many, no_some, a_some}
 use Rattle.published.proofs.wrong_line.Goals as goal
 
 pub loop-k-init : goal.loop-k-init
-loop-k-init c = (omega arith, refl)
+loop-k-init c = refl
 
-pub returns-then-file-at : goal.returns-then-file-at
-returns-then-file-at c =
+pub returns-then-rest-eq0 : goal.returns-then-rest-eq0
+returns-then-rest-eq0 c =
     let l = c.loop-k in
-    let file = c.args.file.now in
-    sym (l.invariant.1 ∙ rw (no_lines file l.at c.if-file-at.true) (missing l.k c.loop-k-test.true))
+    sym (l.invariant ∙ rw (empty l.rest.now c.if-rest-eq0.true, no_lines) (missing l.k c.loop-k-test.true))
 
-pub returns-then-not-is_such : goal.returns-then-not-is_such
-returns-then-not-is_such c =
+pub returns-then-is_none : goal.returns-then-is_none
+returns-then-is_none c =
     let l = c.loop-k in
-    let file = c.args.file.now in
-    let off = ap is_such (sym c.claim_in.ensures) ∙ sym c.is_such.ensures ∙ c.if-not-is_such.true in
-    let line = one_line file l.at _ c.first_of.ensures c.if-file-at.false in
-    sym (l.invariant.1 ∙ rw line (not_such l.k _ _ c.loop-k-test.true off))
+    let lines = lines_first l.rest.now (omega arith) in
+    let off = ap is_some (sym c.claim_in.ensures) ∙ no_some c.claim_in.result c.is_none.result c.is_none.ensures c.if-is_none.true in
+    sym (l.invariant ∙ rw (lines, ← c.first_line.ensures.line) (not_such l.k _ _ c.loop-k-test.true off))
 
 pub loop-k-preserved : goal.loop-k-preserved
 loop-k-preserved c =
     let l = c.loop-k in
-    let file = c.args.file.now in
-    let is = ap is_such (sym c.claim_in.ensures) ∙ sym c.is_such.ensures ∙ c.if-not-is_such.false in
-    let line = one_line file l.at _ c.first_of.ensures c.if-file-at.false in
-    (omega (arith, c.loop-k-test.true), l.invariant.1 ∙ rw line (one_more l.k _ _ c.loop-k-test.true is))
+    let lines = lines_first l.rest.now (omega arith) in
+    let is = ap is_some (sym c.claim_in.ensures) ∙ a_some c.claim_in.result c.is_none.result c.is_none.ensures c.if-is_none.false in
+    l.invariant ∙ rw (lines, ← c.first_line.ensures.line, ← c.first_line.ensures.behind) (one_more l.k _ _ c.loop-k-test.true is)
 
-pub returns-then-at-file : goal.returns-then-at-file
-returns-then-at-file c =
+pub returns-then-rest-eq0-2 : goal.returns-then-rest-eq0-2
+returns-then-rest-eq0-2 c =
     let l = c.loop-k in
-    let file = c.args.file.now in
-    let all : l.k ≡ BYTES = omega (arith, l.invariant.0, c.loop-k-test.false) in
-    let line = one_line file l.at (place (is_byte LF) (drop l.at file)) (ap (place (is_byte LF)) (sym (to_end file l.at))) c.if-at-file.true in
-    let over : wrong_from l.k (lines_in (drop l.at file)) ≡ l.k + 1 = rw line (too_many l.k _ _ (omega arith)) in
-    omega (arith, l.invariant.1, over, all)
+    sym (l.invariant ∙ rw (empty l.rest.now c.if-rest-eq0-2.true, no_lines) (complete l.k (omega arith)))
 
-pub returns : goal.returns
-returns c =
+pub returns-else-rest-eq0-2 : goal.returns-else-rest-eq0-2
+returns-else-rest-eq0-2 c =
     let l = c.loop-k in
-    let file = c.args.file.now in
-    sym (l.invariant.1 ∙ rw (no_lines file l.at c.if-at-file.false) (complete l.k (omega (arith, l.invariant.0, c.loop-k-test.false))))
-
-pub overflow_add-end : goal.overflow_add-end
-overflow_add-end c =
-    let within : let l = c.loop-k in
-    l.at + c.first_of.result ≤ length c.args.file.now = line_there c.args.file.now c.loop-k.at _ c.first_of.ensures c.if-file-at.false in
-    omega (arith, within)
-
-pub slice_bounds-claim_in-end : goal.slice_bounds-claim_in-end
-slice_bounds-claim_in-end c =
-    let within : let l = c.loop-k in
-    l.at + c.first_of.result ≤ length c.args.file.now = line_there c.args.file.now c.loop-k.at _ c.first_of.ensures c.if-file-at.false in
-    within
-
-pub overflow_cast-k : goal.overflow_cast-k
-overflow_cast-k c = omega (arith, c.loop-k-test.true)
-
-pub overflow_add-at : goal.overflow_add-at
-overflow_add-at c =
-    let within : let l = c.loop-k in
-    l.at + c.first_of.result ≤ length c.args.file.now = line_there c.args.file.now c.loop-k.at _ c.first_of.ensures c.if-file-at.false in
-    omega (arith, within)
+    let lines = lines_first l.rest.now (omega arith) in
+    let all : l.k ≡ BYTES = omega arith in
+    let over : wrong_from l.k (lines_in l.rest.now) ≡ Some (l.k + 1) = rw lines (too_many l.k _ _ (omega arith)) in
+    sym (l.invariant ∙ over ∙ ap (λ (k : ℕ). Some (k + 1)) all)

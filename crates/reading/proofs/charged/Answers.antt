@@ -21,10 +21,4 @@ returns-then-pdu-gt12 c = search tests
 
 pub returns : goal.returns
 unfolding charged
-returns c = search (
-  tests,
-  c.short_at-4.ensures,
-  c.short_at-3.ensures,
-  c.short_at-2.ensures,
-  c.short_at.ensures,
-)
+returns c = search (tests, c.charges_at-charges.ensures)

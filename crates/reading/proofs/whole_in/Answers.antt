@@ -1,9 +1,9 @@
 -- `reading::whole_in` meets its contract: its tests are the definition's, and the number is read in the width of the code.
+use Rattle.std.specs.Prelude.{Some}
 use mathlib.Core.Path.{ap}
 use borrow.Author.Tests.{ne_eqb}
 use Rattle.numbers.specs.declared.Measured.{Measured}
 use Rattle.numbers.proofs.Widths.{width_le}
-use Rattle.reading.specs.declared.Carried.TheVariants.{Number}
 use Rattle.reading.specs.Garbled.{whole_in}
 use Rattle.reading.proofs.Garbled.{too_few, all_there}
 use Rattle.lists.proofs.Cases.{tests}
@@ -24,4 +24,4 @@ number_at-number-requires c = omega (arith, c.width-width.ensures, width_le c.ar
 pub returns : goal.returns
 unfolding whole_in
 returns c = rw (← c.width-width.ensures)
-    (rw (ne_eqb _ _ c.if-code-eq3.false, all_there _ _ c.if-pdu-width.false) (ap (λ (m : Measured). Number m.value) c.number_at-number.ensures))
+    (rw (ne_eqb _ _ c.if-code-eq3.false, all_there _ _ c.if-pdu-width.false) (ap (λ (m : Measured). Some m.value) c.number_at-number.ensures))

@@ -7,6 +7,6 @@ pub returns-then-cmd-eq-CAPABILITIES : goal.returns-then-cmd-eq-CAPABILITIES
 unfolding bad_cb_id
 returns-then-cmd-eq-CAPABILITIES c = search tests
 
-pub returns : goal.returns
+pub returns-else-cmd-eq-CAPABILITIES : goal.returns-else-cmd-eq-CAPABILITIES
 unfolding bad_cb_id
-returns c = search tests
+returns-else-cmd-eq-CAPABILITIES c = search tests

@@ -1,4 +1,5 @@
 -- `rules::reading_rule` meets its contract: each arm is a refusal, and reading gives only the first four.
+use Rattle.std.proofs.Common.{Option, true, false, sym, ◌∙◌, eqb-true, eq-eqb}
 use mathlib.Core.Path.{◌≡◌, refl}
 use mathlib.Core.List.{List}
 use Prim.Native.Nat.{ℕ}
@@ -6,12 +7,12 @@ use Rattle.paper.specs.declared.Refusal.{Refusal}
 use Rattle.paper.specs.declared.Refusal.TheVariants.{BadCall, CutShort, TooLong, NoCommand, BadField, BadList, WrongTime, NotOpen}
 use Rattle.paper.specs.declared.Refusal.TheVariants.{AlreadyOpen, StillJoining, OverLimit, PastLength, IsSpoiled, NoStart, AllTaken, NotAwaited, NotSets, Loose}
 use Rattle.paper.specs.declared.Refusal.TheVariants.{NoPartner, NoRoom, LogFull, NotBlocks}
-use Rattle.rules.specs.declared.Broken.{Broken}
+use Rattle.rules.specs.declared.Rule.{Rule}
 use Rattle.rules.proofs.Rules.{Leads, is_empty_law, is_ended, is_long, is_command, never}
 use Rattle.rules.proofs.reading_rule.Goals as goal
 
 -- the refusals but 2 to 5
-others : (why : Refusal) → (why ≡ CutShort → ⊥) → (why ≡ TooLong → ⊥) → (why ≡ NoCommand → ⊥) → (why ≡ BadField → ⊥) → (b : Broken) (pdu : List ℕ) → Leads why b pdu
+others : (why : Refusal) → (why ≡ CutShort → ⊥) → (why ≡ TooLong → ⊥) → (why ≡ NoCommand → ⊥) → (why ≡ BadField → ⊥) → (b : Option Rule) (pdu : List ℕ) → Leads why b pdu
 others BadCall k1 k2 k3 k4 b pdu = never BadCall b pdu refl refl refl refl
 others CutShort k1 k2 k3 k4 b pdu = absurd (k1 refl)
 others TooLong k1 k2 k3 k4 b pdu = absurd (k2 refl)
@@ -35,11 +36,11 @@ others NoRoom k1 k2 k3 k4 b pdu = never NoRoom b pdu refl refl refl refl
 others LogFull k1 k2 k3 k4 b pdu = never LogFull b pdu refl refl refl refl
 others NotBlocks k1 k2 k3 k4 b pdu = never NotBlocks b pdu refl refl refl refl
 
-pub returns-then-pdu-eq0 : goal.returns-then-pdu-eq0
-returns-then-pdu-eq0 c = is_empty_law _ c.args.pdu.now c.if-pdu-eq0.true
+pub returns-then-is_empty : goal.returns-then-is_empty
+returns-then-is_empty c = is_empty_law _ c.args.pdu.now (eqb-true _ 0 (sym c.is_empty.ensures ∙ c.if-is_empty.true))
 
-pub returns-else-pdu-eq0 : goal.returns-else-pdu-eq0
-returns-else-pdu-eq0 c = rw c.in-CutShort.is (is_ended c.args.pdu.now c.if-pdu-eq0.false)
+pub returns-else-is_empty : goal.returns-else-is_empty
+returns-else-is_empty c = rw c.in-CutShort.is (is_ended c.args.pdu.now (λ e. let no : true ≡ false = sym (eq-eqb _ 0 e) ∙ sym c.is_empty.ensures ∙ c.if-is_empty.false in absurd (cc)))
 
 pub returns-in-TooLong : goal.returns-in-TooLong
 returns-in-TooLong c = rw c.in-TooLong.is (is_long c.args.pdu.now)

@@ -12,7 +12,7 @@ unfolding again_of
 returns-in-CreateRequest c =
     let a = c.args in
     let w = c.write_create_request.ensures in
-    let e = c.bytes_at.ensures in
+    let e = c.of.ensures in
     let both = so_written a.pdu.now _ _ a.read _ _ _ (rw e at w.value) (rw e at w.out_after)
     (ap (again_of a.pdu.now) c.in-CreateRequest.is) in record { value = both.0; out_after = both.1 }
 
@@ -30,7 +30,7 @@ unfolding again_of
 returns-in-DataFirst c =
     let a = c.args in
     let w = c.write_data_first.ensures in
-    let e = c.bytes_at-in-DataFirst.ensures in
+    let e = c.of-in-DataFirst.ensures in
     let both = so_written a.pdu.now _ _ a.read _ _ _ (rw e at w.value) (rw e at w.out_after)
     (ap (again_of a.pdu.now) c.in-DataFirst.is) in record { value = both.0; out_after = both.1 }
 
@@ -39,7 +39,7 @@ unfolding again_of
 returns-in-Data c =
     let a = c.args in
     let w = c.write_data.ensures in
-    let e = c.bytes_at-in-Data.ensures in
+    let e = c.of-in-Data.ensures in
     let both = so_written a.pdu.now _ _ a.read _ _ _ (rw e at w.value) (rw e at w.out_after)
     (ap (again_of a.pdu.now) c.in-Data.is) in record { value = both.0; out_after = both.1 }
 

@@ -1,4 +1,4 @@
-use mathlib.Core.Path.{◌≡◌, refl}
+use mathlib.Core.Path.{refl}
 use lib.ListN.{take, get_or}
 use Rattle.lists.specs.Bytes.{laid}
 use Rattle.lists.proofs.Laid.{laid_next}
@@ -11,27 +11,20 @@ use native.Mathlib.Numerals.{add-one}
 use native.Mathlib.Omega.{arith}
 use Rattle.said.proofs.spelled.Goals as goal
 
-pub loop-i-init : goal.loop-i-init
+pub loop-number-init : goal.loop-number-init
 unfolding spelled_out laid
-loop-i-init c = (omega arith, omega arith, refl, refl)
+loop-number-init c = record { few = omega arith; end = refl; out = refl }
 
-pub overflow_add-end : goal.overflow_add-end
-overflow_add-end c = omega (arith, c.field-end.ensures.value.1)
-
-pub loop-i-preserved : goal.loop-i-preserved
-loop-i-preserved c =
-    let numbers = c.args.numbers in
+pub loop-number-preserved : goal.loop-number-preserved
+loop-number-preserved c =
+    let numbers = c.args.numbers.now in
+    let i = c.loop-number.number-index in
+    let before = c.loop-number.invariant in
     let new = c.field-end.ensures in
-    let front = spelled_out (take c.loop-i.i numbers) in
-    let one = field (get_or numbers c.loop-i.i 0) SPACE in
-    rw (add-one, spelled_on numbers c.loop-i.i (omega arith)) (
-      omega arith,
-      omega (arith, new.value.1),
-      ends front one c.loop-i.invariant.2 new.value.0,
-      laid_next _ _ _ front one _ c.loop-i.invariant.2 c.loop-i.invariant.3 new.out_after,
-    )
-
-pub returns : goal.returns
-returns c =
-    let end : c.loop-i.i ≡ c.args.count = omega arith in
-    rw (← end) (record { value = (c.loop-i.invariant.2, omega arith); out_after = c.loop-i.invariant.3 })
+    let front = spelled_out (take i numbers) in
+    let one = field (get_or numbers i 0) SPACE in
+    rw (add-one, spelled_on numbers i (omega arith)) (record {
+      few = omega (arith, new.value.1);
+      end = ends front one before.end new.value.0;
+      out = laid_next _ _ _ front one _ before.end before.out new.out_after;
+    })

@@ -15,11 +15,11 @@ unfolding word_for
 returns-then-same c =
     let told = c.text-then-same.ensures in
     let same = sym c.same.ensures ∙ c.if-same.true in
-    rw (c.in-Length.is, same) (record { value = (told.value, omega (arith, told.value)); out_after = told.out_after })
+    rw (c.in-Ok.is, same) (record { value = (told.value, omega (arith, told.value)); out_after = told.out_after })
 
 pub returns : goal.returns
 unfolding word_for
 returns c =
     let told = c.text-2.ensures in
     let same = sym c.same.ensures ∙ c.if-same.false in
-    rw (c.in-Length.is, same) (record { value = (told.value, omega (arith, told.value)); out_after = told.out_after })
+    rw (c.in-Ok.is, same) (record { value = (told.value, omega (arith, told.value)); out_after = told.out_after })

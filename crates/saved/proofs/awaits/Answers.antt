@@ -1,7 +1,6 @@
 -- `saved::awaits` meets its contract: only an open channel's message is awaited, and of one that holds enough no byte.
 use mathlib.Core.Path.{sym, ◌∙◌}
 use Rattle.saved.proofs.Told.{awaits_shut, awaits_low, awaits_high}
-use native.Mathlib.Omega.{arith}
 use Rattle.saved.proofs.awaits.Goals as goal
 
 pub returns-then-opens-eq0 : goal.returns-then-opens-eq0
@@ -12,13 +11,7 @@ returns-then-code-lt-WANTED c =
     let rest = c.args.rest in
     sym (awaits_low rest 0 0 (λ e. c.if-opens-eq0.false (c.opens.ensures ∙ e)) c.if-code-lt-WANTED.true)
 
-pub returns-then-code : goal.returns-then-code
-returns-then-code c =
-    let rest = c.args.rest in
-    let is = awaits_high rest 0 0 (λ e. c.if-opens-eq0.false (c.opens.ensures ∙ e)) c.if-code-lt-WANTED.false in
-    omega (arith, is, c.if-code.true)
-
 pub returns : goal.returns
 returns c =
     let rest = c.args.rest in
-    sym (awaits_high rest 0 0 (λ e. c.if-opens-eq0.false (c.opens.ensures ∙ e)) c.if-code-lt-WANTED.false)
+    c.saturating_sub.ensures ∙ sym (awaits_high rest 0 0 (λ e. c.if-opens-eq0.false (c.opens.ensures ∙ e)) c.if-code-lt-WANTED.false)

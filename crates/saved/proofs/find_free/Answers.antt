@@ -3,23 +3,14 @@ use Rattle.paper.specs.Sizes.{PARTS}
 use Rattle.lists.proofs.Places.{search_hit, search_miss, search_end}
 use Rattle.channel.specs.Channel.{blank}
 use Rattle.table.specs.Table.{free_place}
-use Rattle.saved.specs.Saved.{STATE, ROW}
+use Rattle.saved.specs.Saved.{ROW}
 use Rattle.saved.proofs.Searching.{length_told, free_at, taken_at}
-use borrow.Author.Rules.{rules}
 use native.Mathlib.Omega.{arith}
 use Rattle.saved.proofs.find_free.Goals as goal
 
 pub loop-i-init : goal.loop-i-init
 unfolding PARTS
 loop-i-init c = (omega arith, omega arith)
-
-pub overflow_mul-i : goal.overflow_mul-i
-unfolding PARTS
-overflow_mul-i c = search rules
-
-pub word-requires : goal.word-requires
-unfolding PARTS STATE
-word-requires c = search rules
 
 pub returns-then-word-eq0 : goal.returns-then-word-eq0
 unfolding PARTS ROW free_place
@@ -28,14 +19,6 @@ returns-then-word-eq0 c =
     let s = c.args.state.now in
     let free = free_at s l.i c.loop-i-test.true (rw c.word.ensures at c.if-word-eq0.true) in
     search_hit _ _ l.i blank (rw (length_told s) c.loop-i-test.true) free l.invariant.1
-
-pub overflow_add-i : goal.overflow_add-i
-unfolding PARTS
-overflow_add-i c = search rules
-
-pub loop-i-smaller : goal.loop-i-smaller
-unfolding PARTS
-loop-i-smaller c = search rules
 
 pub loop-i-preserved : goal.loop-i-preserved
 unfolding PARTS ROW

@@ -3,9 +3,8 @@ use Rattle.paper.specs.Sizes.{PARTS}
 use Rattle.lists.proofs.Places.{search_hit, search_miss, search_end}
 use Rattle.channel.specs.Channel.{blank}
 use Rattle.table.specs.Table.{number_place}
-use Rattle.saved.specs.Saved.{STATE, ROW}
+use Rattle.saved.specs.Saved.{ROW}
 use Rattle.saved.proofs.Searching.{length_told, held_at, other_at, unheld_at}
-use borrow.Author.Rules.{rules}
 use native.Mathlib.Omega.{arith}
 use Rattle.saved.proofs.find_number.Goals as goal
 use Rattle.saved.proofs.find_number.Goals.{else-word-number-via-then-word-number+else-word-eq1, else-word-number-via-else-word-number}
@@ -13,22 +12,6 @@ use Rattle.saved.proofs.find_number.Goals.{else-word-number-via-then-word-number
 pub loop-i-init : goal.loop-i-init
 unfolding PARTS
 loop-i-init c = (omega arith, omega arith)
-
-pub overflow_mul-at : goal.overflow_mul-at
-unfolding PARTS
-overflow_mul-at c = search rules
-
-pub overflow_add-at : goal.overflow_add-at
-unfolding PARTS
-overflow_add-at c = search rules
-
-pub word-requires : goal.word-requires
-unfolding PARTS STATE
-word-requires c = search rules
-
-pub word-requires-then-word-number : goal.word-requires-then-word-number
-unfolding PARTS STATE
-word-requires-then-word-number c = search rules
 
 pub returns-then-word-eq1 : goal.returns-then-word-eq1
 unfolding PARTS ROW number_place
@@ -40,14 +23,6 @@ returns-then-word-eq1 c =
     (sym c.word.ensures ∙ c.if-word-number.true)
     (rw c.word-then-word-number.ensures at c.if-word-eq1.true) in
     search_hit _ _ l.i blank (rw (length_told a.state.now) c.loop-i-test.true) held l.invariant.1
-
-pub overflow_add-i : goal.overflow_add-i
-unfolding PARTS
-overflow_add-i c = search rules
-
-pub loop-i-smaller : goal.loop-i-smaller
-unfolding PARTS
-loop-i-smaller c = search rules
 
 pub loop-i-preserved : goal.loop-i-preserved
 unfolding PARTS ROW

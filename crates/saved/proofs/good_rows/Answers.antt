@@ -5,11 +5,10 @@ use borrow.Author.Tests.{eq-eqb, ne_eqb}
 use Rattle.paper.specs.Sizes.{PARTS, MESSAGE_MAX}
 use Rattle.table.specs.Totals.{opens, awaits}
 use Rattle.table.proofs.Recount.{opens_most}
-use Rattle.saved.specs.Saved.{STATE, ROW, CHANNELS, AWAITED, record_of}
+use Rattle.saved.specs.Saved.{ROW, CHANNELS, AWAITED, record_of}
 use Rattle.saved.specs.Judging.{fine_rest}
 use Rattle.saved.proofs.Told.{word_not, seat_not, fine_free, fine_ready, awaits_most_rest}
 use Rattle.saved.proofs.Judged.{fine_not, fine_on, fine_end, opens_turn, awaits_turn, recounts_end}
-use borrow.Author.Rules.{rules}
 use native.Mathlib.Omega.{arith}
 use Rattle.saved.proofs.good_rows.Goals as goal
 use Rattle.saved.proofs.good_rows.Goals.{else-rest-eq1-via-then-rest-eq1+else-not-ready, else-rest-eq1-via-else-rest-eq1}
@@ -17,14 +16,6 @@ use Rattle.saved.proofs.good_rows.Goals.{else-rest-eq1-via-then-rest-eq1+else-no
 pub loop-i-init : goal.loop-i-init
 unfolding PARTS ROW
 loop-i-init c = (refl, omega arith, omega arith, omega arith, omega arith)
-
-pub overflow_mul-i : goal.overflow_mul-i
-unfolding PARTS
-overflow_mul-i c = search rules
-
-pub word-rest-requires : goal.word-rest-requires
-unfolding PARTS STATE
-word-rest-requires c = search rules
 
 pub returns-then-not-good_rest : goal.returns-then-not-good_rest
 unfolding PARTS ROW
@@ -58,14 +49,6 @@ overflow_add-awaited c =
     let good = sym c.good_rest.ensures ∙ c.if-not-good_rest.false in
     omega (arith, l.invariant.4, c.awaits-awaited.ensures, awaits_most_rest asks _ good)
 
-pub overflow_add-i : goal.overflow_add-i
-unfolding PARTS
-overflow_add-i c = search rules
-
-pub loop-i-smaller : goal.loop-i-smaller
-unfolding PARTS
-loop-i-smaller c = search rules
-
 pub loop-i-preserved : goal.loop-i-preserved
 unfolding PARTS ROW MESSAGE_MAX
 loop-i-preserved c =
@@ -87,14 +70,6 @@ loop-i-preserved c =
       omega (arith, l.invariant.3, c.opens-channels.ensures, opens_most (record_of rest 0 0)),
       omega (arith, l.invariant.4, c.awaits-awaited.ensures, awaits_most_rest a.asks rest good),
     )
-
-pub word-requires : goal.word-requires
-unfolding STATE
-word-requires c = search rules
-
-pub word-requires-then-channels-word : goal.word-requires-then-channels-word
-unfolding STATE
-word-requires-then-channels-word c = search rules
 
 pub returns-then-channels-word : goal.returns-then-channels-word
 unfolding PARTS CHANNELS AWAITED

@@ -7,14 +7,9 @@ use Rattle.table.proofs.Every.{some_here, some_on, some_end}
 use Rattle.saved.specs.Saved.{table_in}
 use Rattle.table.proofs.Twice.{holds_own, holds_other, holds_none}
 use Rattle.saved.proofs.Judged.{length_table}
-use borrow.Author.Rules.{rules}
 use native.Mathlib.Omega.{arith}
 use Rattle.saved.proofs.held_from.Goals as goal
 use Rattle.saved.proofs.held_from.Goals.{else-record-via-then-record+else-record-number, else-record-via-else-record}
-
-pub row-record-requires : goal.row-record-requires
-unfolding PARTS
-row-record-requires c = search rules
 
 pub returns-then-record-number : goal.returns-then-record-number
 unfolding PARTS record_at
@@ -25,14 +20,6 @@ returns-then-record-number c =
     let r = c.row-record in
     let own = rw r.ensures at (holds_own a.number r.result c.if-record.true c.if-record-number.true) in
     sym (l.invariant ∙ some_here (holds a.number) rs l.i blank (omega (arith, length_table a.state.now)) own)
-
-pub overflow_add-i : goal.overflow_add-i
-unfolding PARTS
-overflow_add-i c = search rules
-
-pub loop-i-smaller : goal.loop-i-smaller
-unfolding PARTS
-loop-i-smaller c = search rules
 
 pub loop-i-preserved : goal.loop-i-preserved
 unfolding PARTS record_at

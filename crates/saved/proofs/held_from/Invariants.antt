@@ -1,8 +1,6 @@
 -- `saved::held_from` meets its contract: no record from the place k up to i holds the number.
 use mathlib.Core.Path.{◌≡◌}
-use Prim.Native.Nat.{◌-◌}
 use lib.ListN.{drop}
-use Rattle.paper.specs.Sizes.{PARTS}
 use Rattle.table.specs.Table.{holds}
 use Rattle.table.specs.Sound.{some}
 use Rattle.saved.specs.Saved.{table_in}
@@ -10,6 +8,3 @@ use Rattle.saved.proofs.held_from.Given as goal
 
 abbrev pub invariant-loop-i : goal.invariant-loop-i
 invariant-loop-i l = some (holds l.number) (drop l.k (table_in l.state).records) ≡ some (holds l.number) (drop l.i (table_in l.state).records)
-
-abbrev pub decreases-loop-i : goal.decreases-loop-i
-decreases-loop-i l = PARTS - l.i

@@ -8,18 +8,9 @@ use Rattle.table.specs.Sound.{some}
 use Rattle.table.proofs.Twice.{twice_here, twice_on, twice_end}
 use Rattle.saved.specs.Saved.{table_in}
 use Rattle.saved.proofs.Judged.{length_table}
-use borrow.Author.Rules.{rules}
 use native.Mathlib.Omega.{arith}
 use Rattle.saved.proofs.pairs_apart.Goals as goal
 use Rattle.saved.proofs.pairs_apart.Goals.{else-record-via-then-record+else-held_from, else-record-via-else-record}
-
-pub row-record-requires : goal.row-record-requires
-unfolding PARTS
-row-record-requires c = search rules
-
-pub overflow_add-i : goal.overflow_add-i
-unfolding PARTS
-overflow_add-i c = search rules
 
 pub returns-then-held_from : goal.returns-then-held_from
 unfolding PARTS record_at
@@ -33,14 +24,6 @@ returns-then-held_from c =
     ∙ sym c.held_from.ensures
     ∙ c.if-held_from.true in
     sym (l.invariant ∙ twice_here rs l.i (omega (arith, length_table state)) (rw c.row-record.ensures at twice))
-
-pub overflow_add-i-in-loop-i : goal.overflow_add-i-in-loop-i
-unfolding PARTS
-overflow_add-i-in-loop-i c = search rules
-
-pub loop-i-smaller : goal.loop-i-smaller
-unfolding PARTS
-loop-i-smaller c = search rules
 
 pub loop-i-preserved : goal.loop-i-preserved
 unfolding PARTS record_at

@@ -3,7 +3,7 @@ use Prim.Native.Nat.{◌-◌, ◌/◌, ◌%◌}
 use borrow.Author.Tests.{eqb-true, leb-true}
 use lib.ListN.{length-set}
 use Rattle.paper.specs.Sizes.{PARTS, MESSAGE_MAX}
-use Rattle.saved.specs.Saved.{STATE, ROW, CHANNELS, AWAITED}
+use Rattle.saved.specs.Saved.{ROW, CHANNELS, AWAITED}
 use Rattle.saved.proofs.Passing.{adds_awaited, adds_open, adds_joining, sofar_none, sofar_free, sofar_taken, sofar_all}
 use borrow.Author.Rules.{rules}
 use native.Mathlib.Omega.{arith}
@@ -13,22 +13,6 @@ pub loop-i-init : goal.loop-i-init
 unfolding PARTS
 loop-i-init c = let a = c.args in (refl, sofar_none a.ready a.asks a.state.now _ 16 refl)
 
-pub overflow_mul-at : goal.overflow_mul-at
-unfolding PARTS
-overflow_mul-at c = search rules
-
-pub word-rest-requires : goal.word-rest-requires
-unfolding PARTS STATE
-word-rest-requires c = search rules
-
-pub overflow_add-at : goal.overflow_add-at
-unfolding PARTS
-overflow_add-at c = search rules
-
-pub word-requires : goal.word-requires
-unfolding PARTS STATE
-word-requires c = search rules
-
 pub overflow_add-channels : goal.overflow_add-channels
 unfolding PARTS
 overflow_add-channels c = search rules
@@ -36,14 +20,6 @@ overflow_add-channels c = search rules
 pub overflow_add-awaited : goal.overflow_add-awaited
 unfolding PARTS
 overflow_add-awaited c = search rules
-
-pub word-requires-2 : goal.word-requires-2
-unfolding STATE
-word-requires-2 c = search rules
-
-pub word-requires-then-channels-word : goal.word-requires-then-channels-word
-unfolding STATE
-word-requires-then-channels-word c = search rules
 
 -- an awaited number's
 pub loop-i-preserved-then-rest-ge-MARK : goal.loop-i-preserved-then-rest-ge-MARK

@@ -7,6 +7,3 @@ use Rattle.saved.proofs.plain.Given as goal
 
 abbrev pub invariant-loop-i : goal.invariant-loop-i
 invariant-loop-i l = (length l.marks ≡ MARKS) × Sofar l.ready l.asks l.state l.marks l.channels l.awaited l.i
-
-abbrev pub decreases-loop-i : goal.decreases-loop-i
-decreases-loop-i l = l.i

@@ -1,26 +1,13 @@
 -- `saved::put_row` meets its contract: three words, one behind the other, are the record's bytes.
 use borrow.Author.Tests.{le-ltb}
 use Rattle.paper.specs.Sizes.{PARTS}
-use Rattle.saved.specs.Saved.{STATE, ROW, row_put}
+use Rattle.saved.specs.Saved.{ROW, row_put}
 use Rattle.saved.proofs.Words.{row_put_law}
-use borrow.Author.Rules.{rules}
 use Rattle.saved.proofs.put_row.Goals as goal
 
 pub returns-then-k-ge-PARTS : goal.returns-then-k-ge-PARTS
 unfolding PARTS row_put
 returns-then-k-ge-PARTS c = rw (le-ltb _ _ c.if-k-ge-PARTS.true)
-
-pub put_word-requires : goal.put_word-requires
-unfolding STATE
-put_word-requires c = search rules
-
-pub put_word-requires-2 : goal.put_word-requires-2
-unfolding STATE
-put_word-requires-2 c = search rules
-
-pub put_word-requires-3 : goal.put_word-requires-3
-unfolding STATE
-put_word-requires-3 c = search rules
 
 pub returns : goal.returns
 unfolding PARTS ROW

@@ -1,17 +1,18 @@
--- `saved::put_word` meets its contract: four stores are four bytes laid.
-use Rattle.saved.proofs.Words.{put_four}
-use lib.ListN.{length-set}
+-- `saved::put_word` meets its contract: the part that is copied over comes back as the word's bytes.
+use mathlib.Core.Path.{◌≡◌}
+use lib.ListN.{length}
+use Rattle.lists.proofs.Laid.{back}
+use Prim.Native.Nat.{◌+◌}
+use Rattle.numbers.specs.Numbers.{bytes_of}
+use Rattle.numbers.proofs.Widths.{length_bytes_of}
 use native.Mathlib.Omega.{arith}
+use Rattle.saved.specs.Saved.{STATE}
 use Rattle.saved.proofs.put_word.Goals as goal
 
-pub bounds-state-at-2 : goal.bounds-state-at-2
-bounds-state-at-2 c = simp length-set (omega arith)
-
-pub bounds-state-at-3 : goal.bounds-state-at-3
-bounds-state-at-3 c = simp length-set (omega arith)
-
-pub bounds-state-at-4 : goal.bounds-state-at-4
-bounds-state-at-4 c = simp length-set (omega arith)
-
 pub returns : goal.returns
-returns c = put_four _ _ c.args.at _ c.split-bytes.ensures
+unfolding STATE
+returns c =
+    let a = c.args in
+    let four : length (bytes_of 4 a.value) ≡ 4 = length_bytes_of 4 a.value in
+    let long = c.told-state in
+    rw (c.copy_from_slice.ensures.after, c.split.ensures) (back a.state.now a.at (a.at + 4) (bytes_of 4 a.value) (omega arith) (omega arith) (omega arith))

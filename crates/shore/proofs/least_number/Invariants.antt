@@ -7,7 +7,4 @@ use Rattle.shore.proofs.Least.{left}
 use Rattle.shore.proofs.least_number.Given as goal
 
 abbrev pub invariant-loop-number : goal.invariant-loop-number
-invariant-loop-number l = (l.number ≤ PARTS + 1) × (least_from (left l.number) l.number l.table ≡ least_number l.table)
-
-abbrev pub decreases-loop-number : goal.decreases-loop-number
-decreases-loop-number l = left l.number
+invariant-loop-number l = least_from (left l.number) l.number l.table ≡ least_number l.table

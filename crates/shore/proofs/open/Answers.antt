@@ -36,9 +36,9 @@ returns-then-k-ge-PARTS c =
     let both = unsent a.shore AllTaken a.out.now _ _
     (open_full a.shore a.name.now a.class a.out.now good (not-false _ c.if-not-table.false) full) c.unsent-then-k-ge-PARTS.ensures in record { value = both.0; out_after = both.1 }
 
-pub returns-in-Refused : goal.returns-in-Refused
+pub returns-in-Err : goal.returns-in-Err
 unfolding PARTS
-returns-in-Refused c =
+returns-in-Err c =
     let a = c.args in
     let s = a.shore in
     let out = a.out.now in
@@ -47,11 +47,11 @@ returns-in-Refused c =
     let by = rw (c.class_at-sends.ensures, c.least_number-number.ensures) at c.write_create_request.ensures in
     let both = gives_sent _ _ (opens s a.name.now a.class out good (not-false _ c.if-not-table.false) free)
     (write_refused s (record { table = awaiting s.table (least_number s.table) a.class; asked = s.asked }) (Awaited (least_number s.table)) _ _ out _ _
-    (roomy s out good) by.value by.out_after _ _ c.in-Refused.is c.unsent-in-Refused.ensures) in record { value = both.0; out_after = both.1 }
+    (roomy s out good) by.value by.out_after _ _ c.in-Err.is c.unsent-in-Err.ensures) in record { value = both.0; out_after = both.1 }
 
-pub returns-in-Length : goal.returns-in-Length
+pub returns-in-Ok : goal.returns-in-Ok
 unfolding PARTS
-returns-in-Length c =
+returns-in-Ok c =
     let sixteen : length c.args.shore.table.records ≡ PARTS = search (rules, length_mapped, c.well_formed) in
     let a = c.args in
     let s = a.shore in
@@ -64,4 +64,4 @@ returns-in-Length c =
     let same = next ∙ put_awaited s.table (least_number s.table) a.class (sixteen) free in
     let both = gives_sent _ _ (opens s a.name.now a.class out good (not-false _ c.if-not-table.false) free)
     (write_sent s (record { table = awaiting s.table (least_number s.table) a.class; asked = s.asked }) (Awaited (least_number s.table)) _ _ out _ _
-    (roomy s out good) by.value by.out_after _ _ c.in-Length.is (rw (same, c.least_number-number.ensures) refl)) in record { value = both.0; out_after = both.1 }
+    (roomy s out good) by.value by.out_after _ _ c.in-Ok.is (rw (same, c.least_number-number.ensures) refl)) in record { value = both.0; out_after = both.1 }

@@ -17,8 +17,8 @@ returns-then-shore-ne0 c =
     let good = sym c.bad_out.ensures ∙ c.if-bad_out.false in
     let both = unsent a.shore WrongTime a.out.now _ _ (second a.shore a.version a.charges a.out.now good c.if-shore-ne0.true) c.unsent-then-shore-ne0.ensures in record { value = both.0; out_after = both.1 }
 
-pub returns-in-Refused : goal.returns-in-Refused
-returns-in-Refused c =
+pub returns-in-Err : goal.returns-in-Err
+returns-in-Err c =
     let a = c.args in
     let s = a.shore in
     let out = a.out.now in
@@ -26,10 +26,10 @@ returns-in-Refused c =
     let by = c.write_capabilities_request.ensures in
     let both = gives_sent _ _ (requests s a.version a.charges out good c.if-shore-ne0.false)
     (write_refused s (record { table = s.table; asked = a.version }) (Asked a.version) _ _ out _ _ (roomy s out good) by.value by.out_after _ _
-    c.in-Refused.is c.unsent-in-Refused.ensures) in record { value = both.0; out_after = both.1 }
+    c.in-Err.is c.unsent-in-Err.ensures) in record { value = both.0; out_after = both.1 }
 
-pub returns-in-Length : goal.returns-in-Length
-returns-in-Length c =
+pub returns-in-Ok : goal.returns-in-Ok
+returns-in-Ok c =
     let a = c.args in
     let s = a.shore in
     let out = a.out.now in
@@ -37,4 +37,4 @@ returns-in-Length c =
     let by = c.write_capabilities_request.ensures in
     let both = gives_sent _ _ (requests s a.version a.charges out good c.if-shore-ne0.false)
     (write_sent s (record { table = s.table; asked = a.version }) (Asked a.version) _ _ out _ _ (roomy s out good) by.value by.out_after _ _
-    c.in-Length.is refl) in record { value = both.0; out_after = both.1 }
+    c.in-Ok.is refl) in record { value = both.0; out_after = both.1 }

@@ -2,7 +2,6 @@
 use mathlib.Core.Path.{sym, ◌∙◌}
 use lib.ListN.{length}
 use Rattle.paper.specs.declared.Refusal.TheVariants.{BadCall}
-use Rattle.client.proofs.Asking.{clipped}
 use Rattle.client.proofs.Calls.{proper}
 use Rattle.shore.specs.Asking.{event_asked}
 use Rattle.shore.specs.Shore.{standing, refused, stepped}
@@ -35,6 +34,6 @@ returns c =
     let reply = a.reply.now in
     let st = standing a.shore store in
     let good = sym c.bad_call.ensures ∙ c.if-bad_call.false in
-    let block = clipped a.pdu.now a.heard.block _ _ c.lesser-at.ensures c.lesser.ensures in
+    let block = c.of.ensures in
     let both = gives_whole _ (stepped st (event_asked a.heard a.pdu.now)) reply _ _ _ (passes a.shore store reply (stepped st (event_asked a.heard a.pdu.now)) good)
     (rw block at c.taken.ensures) in record { value = both.0; store_after = both.1.0; reply_after = both.1.1 }

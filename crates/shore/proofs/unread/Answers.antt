@@ -3,10 +3,10 @@ use mathlib.Core.Path.{sym, ◌∙◌}
 use Rattle.shore.specs.Asking.{unread_heard}
 use Rattle.shore.proofs.unread.Goals as goal
 
-pub returns-in-NoNumber : goal.returns-in-NoNumber
+pub returns-in-None : goal.returns-in-None
 unfolding unread_heard
-returns-in-NoNumber c = rw (sym c.carries.ensures ∙ c.in-NoNumber.is) c.bare.ensures
+returns-in-None c = rw (sym c.carries.ensures ∙ c.in-None.is) c.bare.ensures
 
-pub returns-in-Number : goal.returns-in-Number
+pub returns-in-Some : goal.returns-in-Some
 unfolding unread_heard
-returns-in-Number c = rw (sym c.carries.ensures ∙ c.in-Number.is) c.bare-in-Number.ensures
+returns-in-Some c = rw (sym c.carries.ensures ∙ c.in-Some.is) c.bare-in-Some.ensures

@@ -1,9 +1,7 @@
 -- `shore_face::call` meets its contract: refusal 1 stands in front, and behind it the step is given.
 use mathlib.Core.Path.{sym, ◌∙◌}
 use lib.ListN.{length}
-use Rattle.client.proofs.Asking.{clipped}
 use Rattle.shore.specs.Asking.{event_asked}
-use Rattle.shore_face.specs.Face.{asked_by}
 use Rattle.shore_face.proofs.Calls.{fair, face_gives_law, face_refuses}
 use borrow.Author.Rules.{rules}
 use Rattle.shore_face.proofs.call.Goals as goal
@@ -12,7 +10,7 @@ pub returns-then-bad : goal.returns-then-bad
 returns-then-bad c =
     let a = c.args in
     let pdu = a.pdu.now in
-    let both = face_refuses a.state.now a.store.now a.reply.now (event_asked (asked_by a.heard pdu a.number) pdu) _ (λ i. search rules)
+    let both = face_refuses a.state.now a.store.now a.reply.now (event_asked a.asked pdu) _ (λ i. search rules)
     (sym c.bad.ensures ∙ c.if-bad.true) c.refused.ensures in
     record { value = both.0; state_after = both.1.0; store_after = both.1.1.0; reply_after = both.1.1.1 }
 
@@ -26,8 +24,7 @@ unfolding event_asked
 returns c =
     let a = c.args in
     let pdu = a.pdu.now in
-    let heard = c.asked-asked.result in
     let good = sym c.bad.ensures ∙ c.if-bad.false in
-    let block = clipped pdu heard.block _ _ c.lesser-at.ensures c.lesser.ensures in
-    let both = face_gives_law a.state.now a.store.now a.reply.now (event_asked heard pdu) _ _ _ _ good (rw block at c.taken.ensures) in
-    rw (← c.asked-asked.ensures) (record { value = both.0; state_after = both.1.0; store_after = both.1.1.0; reply_after = both.1.1.1 })
+    let block = c.of.ensures in
+    let both = face_gives_law a.state.now a.store.now a.reply.now (event_asked a.asked pdu) _ _ _ _ good (rw block at c.taken.ensures) in
+    (record { value = both.0; state_after = both.1.0; store_after = both.1.1.0; reply_after = both.1.1.1 })

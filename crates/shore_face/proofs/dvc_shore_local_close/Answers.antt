@@ -6,5 +6,5 @@ use Rattle.shore_face.proofs.dvc_shore_local_close.Goals as goal
 pub returns : goal.returns
 returns c =
     let a = c.args in
-    let did = c.call.ensures in
+    let did = rw c.closing.ensures at c.call.ensures in
     rw (closes a.state.now a.store.now [] a.number a.reply.now) (record { value = did.value; state_after = did.state_after; store_after = did.store_after; reply_after = did.reply_after })

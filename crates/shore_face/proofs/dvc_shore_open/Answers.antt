@@ -1,4 +1,5 @@
 -- `shore_face::dvc_shore_open` meets its contract: refusals 1, 7 and 15 in front of what is written; the record is put where it was free.
+use Rattle.std.specs.Prelude.{None}
 use mathlib.Core.Path.{refl, sym, ap, ◌∙◌}
 use mathlib.Core.Bool.{true}
 use mathlib.Core.Logic.{inr}
@@ -7,7 +8,6 @@ use borrow.Author.Tests.{not-true, not-false}
 use lib.ListN.{length}
 use Rattle.paper.specs.Sizes.{PARTS}
 use Rattle.paper.specs.declared.Refusal.TheVariants.{WrongTime, AllTaken}
-use Rattle.channel.specs.declared.Concern.TheVariants.{NoChannel}
 use Rattle.table.specs.Table.{free_place}
 use Rattle.shore.specs.declared.Said.TheVariants.{Awaited, Refused}
 use Rattle.shore.specs.Saying.{concern_said}
@@ -66,9 +66,9 @@ returns-then-k-ge-PARTS c =
     (open_full (shore_in l) a.name.now a.class out good.1 (sym ready ∙ not-false _ c.if-not-head.false) full) c.unsent-then-k-ge-PARTS.ensures in
     record { value = both.0; state_after = both.1.0; out_after = both.1.1 }
 
-pub returns-in-Refused : goal.returns-in-Refused
+pub returns-in-Err : goal.returns-in-Err
 unfolding dvc_shore_opened shore_in PARTS
-returns-in-Refused c =
+returns-in-Err c =
     let a = c.args in
     let l = a.state.now in
     let s = shore_in l in
@@ -80,16 +80,16 @@ returns-in-Refused c =
     let place = home_least l good.0 _ _ c.least_number-number.ensures c.find-k.ensures in
     let free : free_place (table_in l) < PARTS = omega (arith, place, c.if-k-ge-PARTS.false) in
     let by = rw (c.class_at-sends.ensures, c.least_number-number.ensures, head) at c.write_create_request.ensures in
-    let both = out_gives l out _ (record { shore = s; said = Refused _ NoChannel; sent = 0 }) _ _ _ good.0 c.unsent-in-Refused.ensures
+    let both = out_gives l out _ (record { shore = s; said = Refused _ None; sent = 0 }) _ _ _ good.0 c.unsent-in-Err.ensures
     (as_told l (λ i. search rules) (is_state_law l good.0))
     (gives_sent _ _ (opens s a.name.now a.class out good.1 ready free)
     (write_refused s (record { table = awaiting s.table n a.class; asked = s.asked }) (Awaited n) _ _ out _ _ (roomy s out good.1) by.value by.out_after _ _
-    c.in-Refused.is refl)) in
+    c.in-Err.is refl)) in
     record { value = both.0; state_after = both.1.0; out_after = both.1.1 }
 
-pub returns-in-Length : goal.returns-in-Length
+pub returns-in-Ok : goal.returns-in-Ok
 unfolding dvc_shore_opened shore_in saved_shore PARTS concern_said
-returns-in-Length c =
+returns-in-Ok c =
     let a = c.args in
     let l = a.state.now in
     let t = table_in l in
@@ -110,5 +110,5 @@ returns-in-Length c =
     (c.pack_said.ensures ∙ own_said _ (Awaited _) (inr refl) PARTS _) put
     (gives_sent _ _ (opens s a.name.now a.class out good.1 ready free)
     (write_sent s (record { table = awaiting t n a.class; asked = asked_in l }) (Awaited n) _ _ out _ _ (roomy s out good.1) by.value by.out_after _ _
-    c.in-Length.is (rw least refl))) in
+    c.in-Ok.is (rw least refl))) in
     record { value = both.0; state_after = both.1.0; out_after = both.1.1 }

@@ -5,5 +5,5 @@ use Rattle.shore_face.proofs.dvc_shore_receive.Goals as goal
 pub returns : goal.returns
 returns c =
     let a = c.args in
-    let did = c.call.ensures in
+    let did = rw c.hear.ensures at c.call.ensures in
     rw (receives a.state.now a.store.now a.pdu.now a.reply.now) (record { value = did.value; state_after = did.state_after; store_after = did.store_after; reply_after = did.reply_after })

@@ -1,11 +1,11 @@
 -- `shore_face::dvc_shore_request` meets its contract: refusals 1 and 7 in front of what is written.
+use Rattle.std.specs.Prelude.{None}
 use mathlib.Core.Path.{refl, sym, ap, ◌∙◌}
 use mathlib.Core.Bool.{true}
 use mathlib.Core.Logic.{inl}
 use lib.ListN.{length}
 use Rattle.paper.specs.Sizes.{PARTS}
 use Rattle.paper.specs.declared.Refusal.TheVariants.{WrongTime}
-use Rattle.channel.specs.declared.Concern.TheVariants.{NoChannel}
 use Rattle.shore.specs.declared.Said.TheVariants.{Asked, Refused}
 use Rattle.shore.specs.Saying.{concern_said}
 use Rattle.shore.specs.Shore.{requested}
@@ -38,9 +38,9 @@ returns-then-read_head-ne0 c =
     (second (shore_in l) a.version _ out good.1 (λ e. c.if-read_head-ne0.true (asked ∙ e))) c.unsent.ensures in
     record { value = both.0; state_after = both.1.0; out_after = both.1.1 }
 
-pub returns-in-Refused : goal.returns-in-Refused
+pub returns-in-Err : goal.returns-in-Err
 unfolding dvc_shore_requested shore_in PARTS
-returns-in-Refused c =
+returns-in-Err c =
     let a = c.args in
     let l = a.state.now in
     let s = shore_in l in
@@ -48,16 +48,16 @@ returns-in-Refused c =
     let good = fair_out l (length out) (sym c.bad_out.ensures ∙ c.if-bad_out.false) in
     let asked = ap (λ (h : Head). h.asked) (c.read_head.ensures ∙ head_over SHORE true l good.0) in
     let by = c.write_capabilities_request.ensures in
-    let both = out_gives l out _ (record { shore = s; said = Refused _ NoChannel; sent = 0 }) _ _ _ good.0 c.unsent-in-Refused.ensures
+    let both = out_gives l out _ (record { shore = s; said = Refused _ None; sent = 0 }) _ _ _ good.0 c.unsent-in-Err.ensures
     (as_told l (λ i. search rules) (is_state_law l good.0))
     (gives_sent _ _ (requests s a.version _ out good.1 (sym asked ∙ c.if-read_head-ne0.false))
     (write_refused s (record { table = s.table; asked = a.version }) (Asked a.version) _ _ out _ _ (roomy s out good.1) by.value by.out_after _ _
-    c.in-Refused.is refl)) in
+    c.in-Err.is refl)) in
     record { value = both.0; state_after = both.1.0; out_after = both.1.1 }
 
-pub returns-in-Length : goal.returns-in-Length
+pub returns-in-Ok : goal.returns-in-Ok
 unfolding dvc_shore_requested shore_in saved_shore PARTS concern_said
-returns-in-Length c =
+returns-in-Ok c =
     let a = c.args in
     let l = a.state.now in
     let s = shore_in l in
@@ -70,5 +70,5 @@ returns-in-Length c =
     (c.ask.ensures ∙ ask_over_law SHORE true l (λ i. search rules) good.0 a.version c.ranges.version.fits)
     (gives_sent _ _ (requests s a.version _ out good.1 (sym asked ∙ c.if-read_head-ne0.false))
     (write_sent s (record { table = s.table; asked = a.version }) (Asked a.version) _ _ out _ _ (roomy s out good.1) by.value by.out_after _ _
-    c.in-Length.is refl)) in
+    c.in-Ok.is refl)) in
     record { value = both.0; state_after = both.1.0; out_after = both.1.1 }

@@ -12,19 +12,19 @@ returns-then-state-ne-STATE c =
     let both = start_short a.state.now a.store.now c.if-state-ne-STATE.true in
     record { value = both.0; state_after = both.1.0; store_after = both.1.1 }
 
-pub returns-in-Done : goal.returns-in-Done
+pub returns-in-Ok : goal.returns-in-Ok
 unfolding STATE
-returns-in-Done c =
+returns-in-Ok c =
     let a = c.args in
     let s = c.start-begun.ensures in
     let both = start_done a.state.now a.store.now c.if-state-ne-STATE.false _ (ap (λ (x : Started). x.begun) s.value) _ s.store_after _
-    c.in-Done.is c.begin.ensures in
+    c.in-Ok.is c.begin.ensures in
     record { value = both.0; state_after = both.1.0; store_after = both.1.1 }
 
-pub returns-in-Refused : goal.returns-in-Refused
+pub returns-in-Err : goal.returns-in-Err
 unfolding STATE
-returns-in-Refused c =
+returns-in-Err c =
     let a = c.args in
     let s = c.start-begun.ensures in
-    let both = start_not a.state.now a.store.now c.if-state-ne-STATE.false _ (ap (λ (x : Started). x.begun) s.value) _ s.store_after _ c.in-Refused.is in
+    let both = start_not a.state.now a.store.now c.if-state-ne-STATE.false _ (ap (λ (x : Started). x.begun) s.value) _ s.store_after _ c.in-Err.is in
     record { value = both.0; state_after = both.1.0; store_after = both.1.1 }

@@ -8,7 +8,4 @@ use Rattle.saved.specs.Saved.{table_in}
 use Rattle.shore_face.proofs.least_number.Given as goal
 
 abbrev pub invariant-loop-number : goal.invariant-loop-number
-invariant-loop-number l = (l.number ≤ PARTS + 1) × (least_from (left l.number) l.number (table_in l.state) ≡ least_number (table_in l.state))
-
-abbrev pub decreases-loop-number : goal.decreases-loop-number
-decreases-loop-number l = left l.number
+invariant-loop-number l = least_from (left l.number) l.number (table_in l.state) ≡ least_number (table_in l.state)

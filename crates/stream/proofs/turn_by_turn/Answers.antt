@@ -4,9 +4,9 @@ use Rattle.walking.specs.Walking.{beginning}
 use Rattle.walking.proofs.Turns.{line_fits}
 use Rattle.stream.proofs.turn_by_turn.Goals as goal
 
-pub loop-turns-init : goal.loop-turns-init
+pub loop-init : goal.loop-init
 unfolding beginning
-loop-turns-init g c =
+loop-init g c =
     let made = c.begin-turned.ensures.value in
     record {
       store_long = refl;

@@ -8,44 +8,28 @@ use borrow.Author.Rules.{rules}
 use native.Mathlib.Omega.{arith}
 use Rattle.table.proofs.count.Goals as goal
 
-pub loop-i-init : goal.loop-i-init
+pub loop-record-init : goal.loop-record-init
 unfolding PARTS
-loop-i-init c = (search (rules, length_mapped), omega arith, omega arith)
-
-pub offset_bounds-table-i : goal.offset_bounds-table-i
-unfolding PARTS
-offset_bounds-table-i c = search rules
-
-pub bounds-table-i : goal.bounds-table-i
-unfolding PARTS
-bounds-table-i c = search rules
+loop-record-init c = (search (rules, length_mapped), omega arith, omega arith)
 
 pub overflow_add-channels : goal.overflow_add-channels
 unfolding PARTS
 overflow_add-channels c =
-    let l = c.loop-i in
-    let r = get_or c.args.table.records l.i blank in
+    let l = c.loop-record in
+    let r = get_or c.args.table.records l.record-index blank in
     omega (arith, l.invariant.1, c.opens-channels.ensures, opens_most r)
 
-pub overflow_add-i : goal.overflow_add-i
+pub loop-record-preserved : goal.loop-record-preserved
 unfolding PARTS
-overflow_add-i c = search rules
-
-pub loop-i-smaller : goal.loop-i-smaller
-unfolding PARTS
-loop-i-smaller c = search rules
-
-pub loop-i-preserved : goal.loop-i-preserved
-unfolding PARTS
-loop-i-preserved c =
-    let l = c.loop-i in
+loop-record-preserved c =
+    let l = c.loop-record in
     let rs = c.args.table.records in
     let one = c.opens-channels.ensures in
-    (l.invariant.0, omega (arith, l.invariant.1, one, opens_most (get_or rs l.i blank)), omega (arith, l.invariant.2, one, total_on opens rs l.i (omega (arith, l.invariant.0))))
+    (l.invariant.0, omega (arith, l.invariant.1, one, opens_most (get_or rs l.record-index blank)), omega (arith, l.invariant.2, one, total_on opens rs l.record-index (omega (arith, l.invariant.0))))
 
 pub returns : goal.returns
 unfolding PARTS
 returns c =
-    let l = c.loop-i in
+    let l = c.loop-record in
     let rs = c.args.table.records in
-    omega (arith, l.invariant.2, total_end opens rs l.i (omega (arith, l.invariant.0)))
+    omega (arith, l.invariant.2, total_end opens rs l.record-index (omega (arith, l.invariant.0)))

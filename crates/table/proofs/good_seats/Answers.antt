@@ -2,7 +2,7 @@ use mathlib.Core.Path.{◌≡◌, refl, sym, ◌∙◌}
 use mathlib.Core.Bool.{Bool, true, false}
 use Prim.Native.Nat.{◌≤◌, ◌<◌}
 use lib.ListN.{get_or}
-use borrow.Author.Tests.{le-leb, lt-leb}
+use borrow.Author.Tests.{le-leb, lt-leb, not-true, not-false}
 use lib.Dec.{leb}
 use Rattle.paper.specs.Sizes.{PARTS}
 use Rattle.lists.proofs.Arrays.{length_mapped}
@@ -14,7 +14,7 @@ use Rattle.table.proofs.Every.{every_not, every_on, every_end}
 use borrow.Author.Rules.{rules}
 use native.Mathlib.Omega.{arith}
 use Rattle.table.proofs.good_seats.Goals as goal
-use Rattle.table.proofs.good_seats.Goals.{then-record+else-not-table, else-record}
+use Rattle.table.proofs.good_seats.Goals.{else-record-via-then-record+else-not-table, else-record-via-else-record}
 
 -- one record
 over : (ready : Bool) (r : Record) → 3 < r.class → good_seat ready r ≡ false
@@ -34,56 +34,40 @@ unfolding good_seat
 free_good true r h t = rw (le-leb r.class 3 h)
 free_good false r h t = rw (le-leb r.class 3 h, t)
 
-pub loop-i-init : goal.loop-i-init
+pub loop-record-init : goal.loop-record-init
 unfolding PARTS
-loop-i-init c = (search (rules, length_mapped), refl)
-
-pub offset_bounds-table-i : goal.offset_bounds-table-i
-unfolding PARTS
-offset_bounds-table-i c = search rules
-
-pub bounds-table-i : goal.bounds-table-i
-unfolding PARTS
-bounds-table-i c = search rules
+loop-record-init c = (search (rules, length_mapped), refl)
 
 pub returns-then-record-gt3 : goal.returns-then-record-gt3
 unfolding PARTS
 returns-then-record-gt3 c =
-    let l = c.loop-i in
+    let l = c.loop-record in
     let t = c.args.table in
-    sym (l.invariant.1 ∙ every_not _ _ l.i blank (omega arith) (over t.ready (get_or t.records l.i blank) c.if-record-gt3.true))
+    sym (l.invariant.1 ∙ every_not _ _ l.record-index blank (omega arith) (over t.ready (get_or t.records l.record-index blank) c.if-record-gt3.true))
 
 pub returns-then-not-table : goal.returns-then-not-table
 unfolding PARTS
 returns-then-not-table c =
-    let l = c.loop-i in
+    let l = c.loop-record in
     let t = c.args.table in
-    let shut = c.if-not-table.true in
-    sym (l.invariant.1 ∙ every_not _ _ l.i blank (omega arith) (too_soon_law t.ready (get_or t.records l.i blank) shut c.if-record.true))
+    let shut = not-true _ c.if-not-table.true in
+    sym (l.invariant.1 ∙ every_not _ _ l.record-index blank (omega arith) (too_soon_law t.ready (get_or t.records l.record-index blank) shut c.if-record.true))
 
-pub overflow_add-i : goal.overflow_add-i
+pub loop-record-preserved : goal.loop-record-preserved
 unfolding PARTS
-overflow_add-i c = search rules
-
-pub loop-i-smaller : goal.loop-i-smaller
-unfolding PARTS
-loop-i-smaller c = search rules
-
-pub loop-i-preserved : goal.loop-i-preserved
-unfolding PARTS
-loop-i-preserved c =
-    let l = c.loop-i in
+loop-record-preserved c =
+    let l = c.loop-record in
     let t = c.args.table in
-    let r = get_or t.records l.i blank in
+    let r = get_or t.records l.record-index blank in
     let class : r.class ≤ 3 = omega (arith, c.if-record-gt3.false) in
-    let good : good_seat t.ready r ≡ true = elim c.if-record.branch [
-      | then-record+else-not-table w ↦ open_good t.ready r class w.if-not-table.false
-      | else-record w ↦ free_good t.ready r class w.if-record.false
+    let good : good_seat t.ready r ≡ true = elim c.else-record.branch [
+      | else-record-via-then-record+else-not-table w ↦ open_good t.ready r class (not-false _ w.if-not-table.false)
+      | else-record-via-else-record w ↦ free_good t.ready r class w.if-record.false
     ] in
-    (l.invariant.0, l.invariant.1 ∙ every_on _ _ l.i blank (omega arith) good)
+    (l.invariant.0, l.invariant.1 ∙ every_on _ _ l.record-index blank (omega arith) good)
 
 pub returns : goal.returns
 unfolding PARTS
 returns c =
-    let l = c.loop-i in
-    sym (l.invariant.1 ∙ every_end _ _ l.i (omega arith))
+    let l = c.loop-record in
+    sym (l.invariant.1 ∙ every_end _ _ l.record-index (omega arith))

@@ -11,27 +11,11 @@ pub loop-i-init : goal.loop-i-init
 unfolding PARTS
 loop-i-init c = (search (rules, length_mapped), refl)
 
-pub offset_bounds-table-i : goal.offset_bounds-table-i
-unfolding PARTS
-offset_bounds-table-i c = search rules
-
-pub bounds-table-i : goal.bounds-table-i
-unfolding PARTS
-bounds-table-i c = search rules
-
 pub returns-then-holds : goal.returns-then-holds
 unfolding PARTS
 returns-then-holds c =
     let l = c.loop-i in
     sym (l.invariant.1 ∙ some_here _ _ l.i blank (omega arith) (sym c.holds.ensures ∙ c.if-holds.true))
-
-pub overflow_add-i : goal.overflow_add-i
-unfolding PARTS
-overflow_add-i c = search rules
-
-pub loop-i-smaller : goal.loop-i-smaller
-unfolding PARTS
-loop-i-smaller c = search rules
 
 pub loop-i-preserved : goal.loop-i-preserved
 unfolding PARTS

@@ -19,14 +19,6 @@ loop-i-init c =
     let long : length c.args.table.records ≡ PARTS = search (rules, length_mapped) in
     (long, search rules, passed_none _ _ _ long, sym (total_end opens c.args.table.records PARTS (rw long (omega arith))), omega arith)
 
-pub offset_bounds-table-i : goal.offset_bounds-table-i
-unfolding PARTS
-offset_bounds-table-i c = search rules
-
-pub bounds-table-i : goal.bounds-table-i
-unfolding PARTS
-bounds-table-i c = search rules
-
 pub returns-then-marks-mark : goal.returns-then-marks-mark
 returns-then-marks-mark c = λ e. absurd (true_not_false (sym e))
 

@@ -11,6 +11,3 @@ use Rattle.table.proofs.marks_apart.Given as goal
 abbrev pub invariant-loop-i : goal.invariant-loop-i
 invariant-loop-i l = (length l.table.records ≡ PARTS) × (length l.marks ≡ MARKS) × Passed l.table.records l.marks l.i
     × (l.channels ≡ total opens (drop l.i l.table.records)) × (l.channels + l.i ≤ PARTS)
-
-abbrev pub decreases-loop-i : goal.decreases-loop-i
-decreases-loop-i l = l.i

@@ -11,31 +11,11 @@ pub loop-i-init : goal.loop-i-init
 unfolding PARTS
 loop-i-init c = (search (rules, length_mapped), refl)
 
-pub offset_bounds-table-i : goal.offset_bounds-table-i
-unfolding PARTS
-offset_bounds-table-i c = search rules
-
-pub bounds-table-i : goal.bounds-table-i
-unfolding PARTS
-bounds-table-i c = search rules
-
-pub overflow_add-i : goal.overflow_add-i
-unfolding PARTS
-overflow_add-i c = search rules
-
 pub returns-then-held_from : goal.returns-then-held_from
 unfolding PARTS
 returns-then-held_from c =
     let l = c.loop-i in
     sym (l.invariant.1 ∙ twice_here _ l.i (omega arith) (rw c.if-record.true (sym c.held_from.ensures ∙ c.if-held_from.true)))
-
-pub overflow_add-i-in-loop-i : goal.overflow_add-i-in-loop-i
-unfolding PARTS
-overflow_add-i-in-loop-i c = search rules
-
-pub loop-i-smaller : goal.loop-i-smaller
-unfolding PARTS
-loop-i-smaller c = search rules
 
 pub loop-i-preserved : goal.loop-i-preserved
 unfolding PARTS

@@ -1,6 +1,5 @@
 -- `table::pairs_apart` meets its contract: the number of no taken record before i stands behind it too.
 use mathlib.Core.Path.{◌≡◌}
-use Prim.Native.Nat.{◌-◌}
 use lib.ListN.{length, drop}
 use Rattle.paper.specs.Sizes.{PARTS}
 use Rattle.table.specs.Sound.{no_number_twice}
@@ -8,6 +7,3 @@ use Rattle.table.proofs.pairs_apart.Given as goal
 
 abbrev pub invariant-loop-i : goal.invariant-loop-i
 invariant-loop-i l = (length l.table.records ≡ PARTS) × (no_number_twice l.table.records ≡ no_number_twice (drop l.i l.table.records))
-
-abbrev pub decreases-loop-i : goal.decreases-loop-i
-decreases-loop-i l = PARTS - l.i

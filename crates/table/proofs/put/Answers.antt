@@ -11,37 +11,9 @@ use Rattle.table.specs.Table.{placed, bit_of, put_back}
 use Rattle.table.proofs.put.Goals as goal
 use Rattle.table.proofs.put.Goals.{then-rest-eq1, else-rest-eq1}
 
-pub next_record-record-requires : goal.next_record-record-requires
-unfolding PARTS
-next_record-record-requires c = search rules
-
-pub site-requires : goal.site-requires
-unfolding PARTS
-site-requires c = search rules
-
-pub bit-rest-requires : goal.bit-rest-requires
-unfolding PARTS
-bit-rest-requires c = search rules
-
 pub loop-i-init : goal.loop-i-init
 unfolding PARTS
 loop-i-init c = let long : length c.args.table.records ≡ PARTS = search (rules, length_mapped) in (search rules, long, λ j e. begin _ j _ _ long e)
-
-pub offset_bounds-next-i : goal.offset_bounds-next-i
-unfolding PARTS
-offset_bounds-next-i c = search rules
-
-pub bounds-next-i : goal.bounds-next-i
-unfolding PARTS
-bounds-next-i c = search rules
-
-pub overflow_add-i : goal.overflow_add-i
-unfolding PARTS
-overflow_add-i c = search rules
-
-pub loop-i-smaller : goal.loop-i-smaller
-unfolding PARTS
-loop-i-smaller c = search rules
 
 pub loop-i-preserved : goal.loop-i-preserved
 unfolding PARTS placed
@@ -54,10 +26,6 @@ loop-i-preserved c = let l = c.loop-i in (
         | else-rest-eq1 w ↦ inr (w.if-rest-eq1.false, w.next-is)
       ]),
 )
-
-pub totals_after-next-requires : goal.totals_after-next-requires
-unfolding PARTS
-totals_after-next-requires c = search rules
 
 pub returns : goal.returns
 unfolding PARTS put_back placed

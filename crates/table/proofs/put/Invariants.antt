@@ -2,13 +2,10 @@
 use Rattle.table.proofs.OneHot.{SoFar}
 use Rattle.paper.specs.Sizes.{PARTS}
 use lib.ListN.{length}
-use Prim.Native.Nat.{ℕ, ◌-◌, ◌≤◌}
+use Prim.Native.Nat.{ℕ, ◌≤◌}
 use mathlib.Core.Path.{◌≡◌}
 use Rattle.table.specs.Table.{bit_of}
 use Rattle.table.proofs.put.Given as goal
 
 abbrev pub invariant-loop-i : goal.invariant-loop-i
 invariant-loop-i l = (l.i ≤ PARTS) × (length l.initial.next.records ≡ PARTS) × ((j : ℕ) → l.initial.rest ≡ bit_of j → SoFar l.initial.next j l.record l.i l.rest l.next)
-
-abbrev pub decreases-loop-i : goal.decreases-loop-i
-decreases-loop-i l = PARTS - l.i

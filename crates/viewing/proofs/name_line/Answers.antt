@@ -25,21 +25,21 @@ pub bounds-out-at : goal.bounds-out-at
 bounds-out-at c =
     let a = c.args in
     let wrote = written_so (utf8_of a.name.now) a.out.now a.at (omega (arith, c.requires)) _ _ c.to_utf8.ensures.value c.to_utf8.ensures.out_after
-    _ c.in-Length.is in
+    _ c.in-Ok.is in
     rw (wrote.1.1.1, length_laid) (omega (arith, wrote.1.0, result_long a.name.now, c.requires))
 
 pub overflow_add-out : goal.overflow_add-out
 overflow_add-out c =
     let a = c.args in
     let wrote = written_so (utf8_of a.name.now) a.out.now a.at (omega (arith, c.requires)) _ _ c.to_utf8.ensures.value c.to_utf8.ensures.out_after
-    _ c.in-Length.is in
+    _ c.in-Ok.is in
     omega (arith, wrote.1.0, result_long a.name.now, c.requires)
 
 pub overflow_add-result : goal.overflow_add-result
 overflow_add-result c =
     let a = c.args in
     let wrote = written_so (utf8_of a.name.now) a.out.now a.at (omega (arith, c.requires)) _ _ c.to_utf8.ensures.value c.to_utf8.ensures.out_after
-    _ c.in-Length.is in
+    _ c.in-Ok.is in
     omega (arith, wrote.1.0, result_long a.name.now, c.requires)
 
 pub returns : goal.returns
@@ -47,7 +47,7 @@ unfolding name_line
 returns c =
     let a = c.args in
     let wrote = written_so (utf8_of a.name.now) a.out.now a.at (omega (arith, c.requires)) _ _ c.to_utf8.ensures.value c.to_utf8.ensures.out_after
-    _ c.in-Length.is in
+    _ c.in-Ok.is in
     let text = result_of (utf8_of a.name.now) in
     rw (wrote.0, wrote.1.1.1)
     (record {

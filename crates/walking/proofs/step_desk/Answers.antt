@@ -11,7 +11,7 @@ returns c =
     let text = rw got.value at c.desk_line-laid.ensures in
     λ list.
     record {
-      kept = rw (got.value, c.wrapping_add_u64.ensures.value);
+      kept = rw got.value;
       length_laid = text.value.0;
       fits = text.value.1;
       stored = got.store_after;

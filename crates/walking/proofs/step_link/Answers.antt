@@ -18,7 +18,7 @@ returns c =
     let did = c.step-stepped.ensures in
     rw c.if-kept.false
     (record {
-      kept = rw (did.0, did.1.ends, c.wrapping_add_u64.ensures.value);
+      kept = rw (did.0, did.1.ends);
       length_laid = did.1.length_laid;
       fits = did.1.fits;
       stored = did.1.stored;

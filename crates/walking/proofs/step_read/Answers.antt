@@ -7,12 +7,12 @@ use Rattle.walking.proofs.step_read.Goals as goal
 pub returns : goal.returns
 unfolding program after_record text_of room_for
 returns c =
-    let pdu = pdu_lent c.args.bytes.now _ c.lesser-from.ensures in
+    let pdu = pdu_lent c.args.bytes.now _ c.min-from.ensures in
     let read = rw pdu at c.read_strict.ensures in
     let line = rw (c.verdict-refusal.ensures, read) at c.reading_line-laid.ensures in
     λ list store.
     record {
-      kept = rw c.wrapping_add_u64.ensures.value;
+      kept = refl;
       length_laid = line.value.0;
       fits = line.value.1;
       stored = refl;

@@ -7,10 +7,10 @@ pub returns : goal.returns
 unfolding program after_record after_step text_of room_for
 returns c =
     let a = c.args in
-    let got = rw (pdu_lent a.bytes.now _ c.lesser-from.ensures) at c.answered-received.ensures in
+    let got = rw (pdu_lent a.bytes.now _ c.min-from.ensures) at c.answered-received.ensures in
     let text = rw (got.value, got.store_after) at c.text_for-laid.ensures in
     record {
-      kept = rw (got.value, c.wrapping_add_u64.ensures.value);
+      kept = rw got.value;
       length_laid = text.value.0;
       fits = text.value.1;
       stored = got.store_after;

@@ -1,7 +1,7 @@
 -- `writing::write_create_response` meets its contract: the answer is the judge's on the
 -- length of a Create response, and what is not refused is laid.
-use mathlib.Core.Path.{◌≡◌, refl, ap, ◌∙◌}
-use mathlib.Core.Bool.{false}
+use mathlib.Core.Path.{refl, sym, ap, ◌∙◌}
+use Rattle.std.proofs.lemmas.Result.{err_from_is_err_and}
 use lib.IntN.{ℤ}
 use mir.Syntax.{w32}
 use mir.Facts.{to_z-of_z}
@@ -9,38 +9,29 @@ use Rattle.lists.specs.Bytes.{laid}
 use Rattle.numbers.proofs.Widths.{narrowest_le}
 use Rattle.laying.specs.Laying.{create_response_bytes}
 use Rattle.laying.proofs.Lengths.{length_create_response}
-use Rattle.writing.specs.Writing.{written}
 use Rattle.writing.proofs.Answers.{answered, laid_so, refused_so}
 use native.Mathlib.Omega.{arith}
 use Rattle.writing.proofs.write_create_response.Goals as goal
 
-pub overflow_add-length : goal.overflow_add-length
-overflow_add-length c = omega (arith, c.narrow.ensures, narrowest_le c.args.number)
+pub overflow_add-wanted : goal.overflow_add-wanted
+overflow_add-wanted c = omega (arith, c.narrow.ensures, narrowest_le c.args.number)
 
-pub overflow_add-length-2 : goal.overflow_add-length-2
-overflow_add-length-2 c = omega (arith, c.narrow.ensures, narrowest_le c.args.number)
+pub overflow_add-wanted-2 : goal.overflow_add-wanted-2
+overflow_add-wanted-2 c = omega (arith, c.narrow.ensures, narrowest_le c.args.number)
 
-pub returns-in-Length : goal.returns-in-Length
-returns-in-Length c =
-    let answer : c.judge-answer.result ≡ written false
-    (create_response_bytes c.args.number c.args.status) c.args.out.now = answered _ _ c.judge-answer.ensures refl
-    (omega (
-      arith,
-      c.narrow.ensures,
-      length_create_response c.args.number c.args.status,
-    )) in
+pub returns-in_err-length : goal.returns-in_err-length
+returns-in_err-length c =
+    let p = err_from_is_err_and c.from_residual.result c.from_residual.ensures.1 in
+    rw (p.1, p.2) (record {
+      value = sym c.in_err-length.was ∙ answered _ _ c.judge.ensures refl (omega (arith, c.narrow.ensures, length_create_response c.args.number c.args.status));
+      out_after = refused_so _ _ refl;
+    })
+
+pub returns : goal.returns
+returns c =
     let a = c.args in
-    let same = ap (λ (z : ℤ). laid a.out.now 0 (create_response_bytes a.number z))
-    (to_z-of_z {w = w32} c.ranges.status) in
-    record { value = answer; out_after = laid_so _ _ c.in-Length.is (c.create_response.ensures.out_after ∙ same) }
-
-pub returns-in_default : goal.returns-in_default
-returns-in_default c =
-    let answer : c.judge-answer.result ≡ written false
-    (create_response_bytes c.args.number c.args.status) c.args.out.now = answered _ _ c.judge-answer.ensures refl
-    (omega (
-      arith,
-      c.narrow.ensures,
-      length_create_response c.args.number c.args.status,
-    )) in
-    record { value = answer; out_after = refused_so _ _ c.in_default.is }
+    let same = ap (λ (z : ℤ). laid a.out.now 0 (create_response_bytes a.number z)) (to_z-of_z {w = w32} c.ranges.status) in
+    record {
+      value = sym c.in_ok-length.was ∙ answered _ _ c.judge.ensures refl (omega (arith, c.narrow.ensures, length_create_response c.args.number c.args.status));
+      out_after = laid_so _ _ refl (c.create_response.ensures.out_after ∙ same);
+    }

@@ -1,31 +1,30 @@
 -- `writing::write_data` meets its contract: the answer is the judge's on the
 -- length of a Data, and what is not refused is laid.
-use mathlib.Core.Path.{◌≡◌, refl}
-use mathlib.Core.Bool.{false}
+use mathlib.Core.Path.{refl, sym, ◌∙◌}
+use Rattle.std.proofs.lemmas.Result.{err_from_is_err_and}
 use Rattle.numbers.proofs.Widths.{narrowest_le}
-use Rattle.laying.specs.Laying.{data_bytes}
 use Rattle.laying.proofs.Lengths.{length_data}
-use Rattle.writing.specs.Writing.{written}
 use Rattle.writing.proofs.Answers.{answered, laid_so, refused_so}
 use native.Mathlib.Omega.{arith}
 use Rattle.writing.proofs.write_data.Goals as goal
 
-pub overflow_add-length : goal.overflow_add-length
-overflow_add-length c = omega (arith, c.narrow.ensures, narrowest_le c.args.number)
+pub overflow_add-wanted : goal.overflow_add-wanted
+overflow_add-wanted c = omega (arith, c.narrow.ensures, narrowest_le c.args.number)
 
-pub overflow_add-length-2 : goal.overflow_add-length-2
-overflow_add-length-2 c = omega (arith, c.narrow.ensures, narrowest_le c.args.number)
+pub overflow_add-wanted-2 : goal.overflow_add-wanted-2
+overflow_add-wanted-2 c = omega (arith, c.narrow.ensures, narrowest_le c.args.number)
 
-pub returns-in-Length : goal.returns-in-Length
-returns-in-Length c =
-    let answer : c.judge-answer.result ≡ written false
-    (data_bytes c.args.number c.args.block.now) c.args.out.now = answered _ _ c.judge-answer.ensures refl
-    (omega (arith, c.narrow.ensures, length_data c.args.number c.args.block.now)) in
-    record { value = answer; out_after = laid_so _ _ c.in-Length.is c.«data».ensures.out_after }
+pub returns-in_err-length : goal.returns-in_err-length
+returns-in_err-length c =
+    let p = err_from_is_err_and c.from_residual.result c.from_residual.ensures.1 in
+    rw (p.1, p.2) (record {
+      value = sym c.in_err-length.was ∙ answered _ _ c.judge.ensures refl (omega (arith, c.narrow.ensures, length_data c.args.number c.args.block.now));
+      out_after = refused_so _ _ refl;
+    })
 
-pub returns-in_default : goal.returns-in_default
-returns-in_default c =
-    let answer : c.judge-answer.result ≡ written false
-    (data_bytes c.args.number c.args.block.now) c.args.out.now = answered _ _ c.judge-answer.ensures refl
-    (omega (arith, c.narrow.ensures, length_data c.args.number c.args.block.now)) in
-    record { value = answer; out_after = refused_so _ _ c.in_default.is }
+pub returns : goal.returns
+returns c =
+    record {
+      value = sym c.in_ok-length.was ∙ answered _ _ c.judge.ensures refl (omega (arith, c.narrow.ensures, length_data c.args.number c.args.block.now));
+      out_after = laid_so _ _ refl c.«data».ensures.out_after;
+    }
