@@ -253,7 +253,9 @@ fn bench(
 }
 
 // How many rounds are asked for, where the program is called as it is to be.
-fn asked(rt: &impl Env) -> Option<u64> {
+fn asked(rt: &impl Env) -> Option<u64>
+    ensures { IfSome result (λ n. n < 1000000000) }
+{
     if files::arguments(rt) != 3 {
         return None;
     }

@@ -1,14 +1,15 @@
 -- What makes a block bad, test by test, in whatever order the tests are made.
 -- Assumes nothing.
-use mathlib.Core.Path.{◌≡◌}
+use mathlib.Core.Path.{◌≡◌, sym}
 use mathlib.Core.Bool.{Bool, true, false, ◌&&◌}
-use Prim.Native.Nat.{ℕ, ◌+◌, ◌≤◌}
+use Prim.Native.Nat.{ℕ, ◌+◌, ◌-◌, ◌≤◌}
 use native.Mathlib.Omega.{arith}
 use mathlib.Core.List.{List}
 use borrow.Author.Tests.{eq-eqb, ne_eqb, leb-true, eqb-true}
 use lib.Dec.{eqb}
-use lib.ListN.{length, drop}
+use lib.ListN.{length, take, drop}
 use Rattle.lists.proofs.Cases.{and_false, both}
+use Rattle.lists.proofs.Laid.{to_end}
 use Rattle.blocks.specs.Check.{check_of}
 use Rattle.blocks.specs.Block.{BLOCK, HEAD, PAYLOAD, number_in, used_in, place_in, check_in, may_use, may_begin, all_zero, is_good}
 
@@ -40,6 +41,13 @@ module _ (last : Bool) (number : ℕ) (block : List ℕ) where
   unfolding is_good
   rests size which used place sum =
       rw (eq-eqb (length block) BLOCK size, eq-eqb (check_in block) (check_of block) sum, eq-eqb (number_in block) number which, used, place)
+
+  -- and these are looked at from their place on
+  pub rests_from : (end : ℕ) → length block ≡ BLOCK → number_in block ≡ number → may_use last (used_in block) ≡ true
+      → may_begin (used_in block) (place_in block) ≡ true → check_in block ≡ check_of block → end ≡ HEAD + used_in block
+      → all_zero (take (BLOCK - end) (drop end block)) ≡ is_good last number block
+  rests_from end size which used place sum at =
+      rw at (rw (← size, to_end block (HEAD + used_in block)) (sym (rests size which used place sum)))
 
   -- what a good block says
   pub good_says : is_good last number block ≡ true

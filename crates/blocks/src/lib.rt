@@ -77,6 +77,7 @@ fn all_zero(bytes: &[u8]) -> bool
 }
 
 // Whether these are the bytes of the block of that number, which is the last or not.
+#[tactic(auto, using(crate::proofs::Judged::rests_from, crate::proofs::Judged::uses_le))]
 pub fn good(block: &[u8], number: u32, last: bool) -> bool
     ensures { result ≡ is_good last number block.now }
 {

@@ -25,7 +25,7 @@ use channel::{Answer, Record};
 use client::Received;
 use lines::{ANSWER_MAX, FIELD_MAX, Pen};
 use paper::{PARTS, REPLY_MIN, Refusal};
-use records::Stand;
+use records::{Stand, Step};
 use rules::Rule;
 use table::Table;
 
@@ -275,6 +275,22 @@ pub fn begin(store: &mut [u8]) -> Stand<Course>
     }
 }
 
+// A search, by the place that is sought and the client's listeners, as a step of a walk. The store is lent.
+#[derive(Drop)]
+struct Search<'a> {
+    sought: u64,
+    list: &'a [u8],
+}
+
+impl<'a> Step<Course> for Search<'a> {
+    ghost after = { λ search at pdu.
+        let way = way_after search.sought search.list.now (way_of at.0 at.1) pdu in (way.course, way.store) };
+
+    fn take(&self, course: Course, store: &mut [u8], pdu: &[u8]) -> Course {
+        step(self.sought, course, store, self.list, pdu)
+    }
+}
+
 // Takes the whole records of the input that is there, what was left and behind it what was read. What is left then comes to the
 // front.
 pub fn turn(
@@ -290,9 +306,7 @@ pub fn turn(
         (way_of course store.old) input.old).kept.store }
     ensures input_after { input.new ≡ laid input.old 0 (rest_of whole_of input.old) }
 {
-    records::turn(course, store, input, |course, store, pdu| {
-        step(sought, course, store, list, pdu)
-    })
+    records::turn(course, store, input, &Search { sought, list })
 }
 
 // The number with a digit behind it, where that is below 2^64.

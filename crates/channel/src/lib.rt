@@ -12,7 +12,7 @@ ghost use Rattle.channel.specs.Stages.{added, took_first, took};
 ghost use Rattle.channel.specs.Channel.{class_at, counted, opened_record, rebuilt};
 ghost use Rattle.channel.specs.Turns.{answering, declining, creating, landing, bringing, garbling, closing, turn_of};
 
-use paper::{MESSAGE_MAX, Refusal};
+use paper::{COUNT_MAX, MESSAGE_MAX, Refusal};
 
 // How far a channel's message is.
 #[derive(Clone, Copy)]
@@ -278,7 +278,7 @@ fn counted(count: u32, handed: bool) -> u32
     ensures { result ≡ counted count handed }
 {
     if handed {
-        return count.saturating_add(1);
+        return count.saturating_add(1).min(COUNT_MAX);
     }
     count
 }

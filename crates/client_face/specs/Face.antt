@@ -1,12 +1,14 @@
 -- The client end as a host in C calls it: the table in bytes that the host lends, the answer in one number.
-use Rattle.std.specs.Prelude.{ℕ, Bool, true, false, cond, not, ◌&&◌, ◌||◌, List, eqb, ltb, length, None}
+use Rattle.std.specs.Prelude.{ℕ, Bool, true, false, cond, not, ◌&&◌, ◌||◌, List, Option, eqb, ltb, length, None, Some}
 use Rattle.paper.specs.Sizes.{PARTS, STORE, REPLY_MIN}
 use Rattle.paper.specs.declared.Refusal.TheVariants.{BadCall}
 use Rattle.lists.specs.Bytes.{laid}
 use Rattle.reading.specs.Reading.{read_pdu}
 use Rattle.channel.specs.declared.Answer.TheVariants.{Refused}
 use Rattle.channel.specs.Answers.{concern_of}
+use Rattle.deciding.specs.declared.Matter.{Matter}
 use Rattle.table.specs.declared.Table.{Table}
+use Rattle.client.specs.declared.Asked.{Asked}
 use Rattle.client.specs.Events.{Event}
 use Rattle.client.specs.Asking.{heard_in, closing_of}
 use Rattle.client.specs.Client.{Stepped, Whole, place_for, called, received, locally_closed, started, store_started}
@@ -60,6 +62,11 @@ unfoldable pub dvc_started : List ℕ → List ℕ → Begins
 dvc_started state store = begins CLIENT (started store).table state store
 
 -- ---- the same, as the code has it. Nobody need believe what follows: proofs/Calls shows that it is so.
+
+-- what the host asks: a close of the number, if one is given, and else what the PDU asks
+unfoldable pub asked_by : Option ℕ → List ℕ → List ℕ → Asked Matter
+asked_by None list pdu = heard_in list pdu (read_pdu true pdu)
+asked_by (Some n) list pdu = closing_of n
 
 -- refusal 1: store or reply is not of its size, the bytes are no state of the end with this mark, or the table is unsound
 unfoldable pub bad_face : ℕ → Bool → List ℕ → ℕ → ℕ → Bool

@@ -14,7 +14,7 @@ ghost use Rattle.connection.specs.States.{state_of};
 ghost use Rattle.client.specs.Asking.{told, event_asked};
 ghost use Rattle.client.specs.Client.{stepped};
 ghost use Rattle.saved.specs.Saved.{CLIENT, table_in, is_good};
-ghost use Rattle.client_face.specs.Face.{no_state, dvc_received, dvc_closed, dvc_started, bad_face, Gives, faces};
+ghost use Rattle.client_face.specs.Face.{no_state, dvc_received, dvc_closed, dvc_started, asked_by, bad_face, Gives, faces};
 
 use channel::Answer;
 use client::Asked;
@@ -33,6 +33,17 @@ pub fn bad(mark: u32, asks: bool, state: &[u8], store: usize, reply: usize) -> b
         return true;
     }
     !saved::good(state, mark, asks)
+}
+
+// What the host asks: a close of the number, if one is given, and else what the PDU asks.
+#[tactic(auto, unfolding(crate::specs::Face::asked_by))]
+fn asked(closes: Option<u32>, list: &[u8], pdu: &[u8]) -> Asked<Matter>
+    ensures { result ≡ asked_by closes list.now pdu.now }
+{
+    match closes {
+        Some(number) => client::closing(number),
+        None => client::heard(list, pdu),
+    }
 }
 
 fn refused() -> u64
@@ -83,26 +94,29 @@ fn taken(
     packing::pack_answer(answer, number, k, sent)
 }
 
-// A call: refusal 1, and behind it what is asked.
+// A call: refusal 1, and behind it what is asked, which is worked out here: a value that is handed in is written out and read
+// back at each call (bench/NOTES.md).
 fn call(
     state: &mut [u8],
     store: &mut [u8],
-    asked: Asked<Matter>,
+    closes: Option<u32>,
+    list: &[u8],
     pdu: &[u8],
     reply: &mut [u8],
 ) -> u64
     ensures value { result ≡ (faces state.old store.old
-        (event_asked asked pdu.now) reply.old).answer }
+        (event_asked (asked_by closes list.now pdu.now) pdu.now) reply.old).answer }
     ensures state_after { state.new ≡ (faces state.old store.old
-        (event_asked asked pdu.now) reply.old).state }
+        (event_asked (asked_by closes list.now pdu.now) pdu.now) reply.old).state }
     ensures store_after { store.new ≡ (faces state.old store.old
-        (event_asked asked pdu.now) reply.old).store }
+        (event_asked (asked_by closes list.now pdu.now) pdu.now) reply.old).store }
     ensures reply_after { reply.new ≡ (faces state.old store.old
-        (event_asked asked pdu.now) reply.old).reply }
+        (event_asked (asked_by closes list.now pdu.now) pdu.now) reply.old).reply }
 {
     if bad(saved::CLIENT, false, state, store.len(), reply.len()) {
         return refused();
     }
+    let asked = asked(closes, list, pdu);
     taken(
         state,
         store,
@@ -153,7 +167,7 @@ pub extern "C" fn dvc_receive(
     ensures reply_after { reply.new ≡ (dvc_received state.old store.old
         list.now pdu.now reply.old).reply }
 {
-    call(state, store, client::heard(list, pdu), pdu, reply)
+    call(state, store, None, list, pdu, reply)
 }
 
 // The host closes a channel. The reply is a Close.
@@ -169,5 +183,5 @@ pub extern "C" fn dvc_local_close(
     ensures store_after { store.new ≡ (dvc_closed state.old store.old number reply.old).store }
     ensures reply_after { reply.new ≡ (dvc_closed state.old store.old number reply.old).reply }
 {
-    call(state, store, client::closing(number), b"", reply)
+    call(state, store, Some(number), b"", b"", reply)
 }

@@ -1,18 +1,19 @@
 -- The table: its identity ranges, its five entries without a code point, and that no two others are equal, tested once over the whole.
 -- Assumes nothing.
 use Rattle.std.specs.Prelude.{Option, None, Some, ◌==◌}
-use mathlib.Core.Path.{◌≡◌, refl, sym, ◌∙◌}
+use mathlib.Core.Path.{◌≡◌, refl, sym, ap, ◌∙◌}
 use mathlib.Core.Logic.{⊎_elim}
 use mathlib.Core.Bool.{Bool, true, false, cond, not, ◌&&◌, ◌||◌, beq}
 use mathlib.Core.List.{List, [], ◌∷◌}
-use Prim.Native.Nat.{ℕ, ◌+◌, ◌≤◌, ◌<◌}
+use Prim.Native.Nat.{ℕ, ◌+◌, ◌-◌, ◌≤◌, ◌<◌}
 use native.Mathlib.Omega.{arith}
 use borrow.Author.Tests.{ltb-true, eqb-true, eqb-false, lt-ltb, le-ltb, le-leb, lt-leb, ne_eqb}
 use lib.Dec.{eqb, ltb, leb}
-use lib.ListN.{length, get_or, get_or-eq_default}
+use lib.ListN.{length, take, drop, get_or, get_or-eq_default}
+use Rattle.std.proofs.lemmas.List.{get_or-take, get_or-drop}
 use Rattle.lists.specs.Places.{place, here_or}
 use Rattle.lists.proofs.Cases.{both, lt_or_le, true_not_false}
-use Rattle.lists.proofs.Places.{place_passes}
+use Rattle.lists.proofs.Places.{place_passes, place_none}
 use Rattle.codepage.specs.Points.{NONE, BYTES, points, is_five, point_of, point_for, is_entry, found, byte_for}
 use Rattle.std.specs.List.{position, position_or_len}
 use Rattle.std.proofs.lemmas.List.Quantifiers.{position-Some}
@@ -194,14 +195,51 @@ place_is test (x ∷ xs) = go (test x) (place_is test xs)
     go true e = refl
     go false e = omega arith
 
--- the byte of a code point is found in the table
-pub found_in_table : (p : ℕ) → (p ≡ NONE → ⊥) → position (λ entry. entry == p) points ≡ byte_for p
-unfolding byte_for
-found_in_table p one = rw (ne_eqb p NONE one, ← size, ← (place_is (is_entry p) points)) refl
+-- ---- the entries from 80 to 9F, the ones that are not their own place
 
--- such a place is a byte
-pub place_byte : (p i : ℕ) → Some i ≡ position (λ entry. entry == p) points → i < BYTES
-place_byte p i e = rw size at (position-Some (λ entry. entry == p) points i 0 (sym e)).0
+abbrev pub apart : List ℕ
+apart = take 0x20 (drop 0x80 points)
+
+apart_long : length apart ≡ 0x20
+unfolding points
+apart_long = refl
+
+apart_is : (i : ℕ) → i < 0x20 → get_or apart i 0 ≡ point_of (0x80 + i)
+apart_is i h = get_or-take 0x20 (drop 0x80 points) i 0 h ∙ get_or-drop 0x80 points i 0 ∙ entry_read (0x80 + i) (omega arith)
+
+-- a code point that is found there has the byte of its entry
+pub found_apart : (p i : ℕ) → (p ≡ NONE → ⊥) → position (λ entry. entry == p) apart ≡ Some i → (i < 0x20) × (byte_for p ≡ Some (0x80 + i))
+found_apart p i one e =
+    let at = position-Some (λ entry. entry == p) apart i 0 e in
+    let below : i < 0x20 = rw apart_long at at.0 in
+    let is : get_or apart i 0 ≡ p = eqb-true (get_or apart i 0) p at.1 in
+    (below, partners_byte (0x80 + i) p (record { byte = omega (arith, below); entry_is = sym (apart_is i below) ∙ is; is_one = one }))
+
+-- where nothing is found, no entry is for it
+none_there : (p : ℕ) → position (λ entry. entry == p) apart ≡ None → length apart ≤ place (is_entry p) apart
+none_there p e =
+    ⊎_elim
+    (λ (h : place (is_entry p) apart < length apart). let none : ◌≡◌ {A = Option ℕ} (Some (place (is_entry p) apart)) None = rw (place_is (is_entry p) apart, lt-ltb _ _ h) at e in let z : ◌≡◌ {A = ℕ} 0 1 = cc in absurd (omega arith))
+    (λ (h : length apart ≤ place (is_entry p) apart). h)
+    (lt_or_le (place (is_entry p) apart) (length apart))
+
+-- and one that no entry there is for, above all that are their own place, has no byte
+pub none_apart : (p : ℕ) → BYTES ≤ p → position (λ entry. entry == p) apart ≡ None → byte_for p ≡ None
+none_apart p high e =
+    no_partner p
+    (λ b are.
+    ⊎_elim
+    (λ (h : b < 0x80). omega (arith, low_same b h, are.entry_is))
+    (λ (h : 0x80 ≤ b).
+    ⊎_elim
+    (λ (g : b < 0xA0).
+    let i = b - 0x80 in
+    let off = place_none (is_entry p) apart 0 (ne_eqb 0 p (λ z. omega (arith, z))) (none_there p e) i in
+    let there : get_or apart i 0 ≡ p = apart_is i (omega arith) ∙ ap point_of (omega arith) ∙ are.entry_is in
+    eqb-false (get_or apart i 0) p off there)
+    (λ (g : 0xA0 ≤ b). let k = are.byte in omega (arith, high_same b g k, are.entry_is))
+    (lt_or_le b 0xA0))
+    (lt_or_le b 0x80))
 
 -- a byte by itself
 pub own_byte : (b : ℕ) → b < BYTES → point_of b ≡ b → byte_for b ≡ Some b

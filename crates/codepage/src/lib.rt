@@ -135,16 +135,21 @@ fn place(table: &[u16], point: u16) -> Option<usize>
     table.iter().position(|entry| *entry == point)
 }
 
-// Looks for a code point in the whole table.
+// The entries from 80 to 9F (hexadecimal): the ones that are not their own place.
+const FIRST: usize = 0x80;
+
+const BEHIND: usize = 0xA0;
+
+// Looks for a code point among these.
 fn among(point: u16) -> Option<u8>
-    requires { point < NONE }
+    requires { (0x100 ≤ point) × (point < NONE) }
     ensures { result ≡ byte_for point }
 {
-    let byte = place(&POINTS, point)?;
-    Some(byte as u8)
+    let i = place(&POINTS[FIRST..BEHIND], point)?;
+    Some((FIRST + i) as u8)
 }
 
-// The byte of a code point, if it has one. Entries from 80 to 9F (hexadecimal) are not their own place.
+// The byte of a code point, if it has one.
 fn byte_for(point: u16) -> Option<u8>
     ensures { result ≡ byte_for point }
 {

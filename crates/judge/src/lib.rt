@@ -18,7 +18,7 @@ ghost use Rattle.judge.specs.Sender.{HEAD, HEAD_MAX, head_needs, is_whole, REASO
 use channel::{Offer, Stage, Took};
 use lines::Pen;
 use reading::Pdu;
-use records::Stand;
+use records::{Stand, Step};
 
 // The bytes of the channel's number, and of number and message length.
 pub const NUMBER: usize = 4;
@@ -260,15 +260,28 @@ pub fn begin() -> Stand<Course>
     }
 }
 
+// A judgement, by the channel's number and the message, as a step of a walk. It uses nothing that is lent.
+#[derive(Drop)]
+struct Judging<'a> {
+    number: u32,
+    message: &'a [u8],
+}
+
+impl<'a> Step<Course> for Judging<'a> {
+    ghost after = { λ judging at pdu. (course_after judging.number judging.message.now at.0 pdu, at.1) };
+
+    fn take(&self, course: Course, _: &mut [u8], pdu: &[u8]) -> Course {
+        judge(self.number, self.message, course, pdu)
+    }
+}
+
 // Judges the whole records of the input that is there, what was left and behind it what was read. What is left then comes to
 // the front.
 pub fn turn(number: u32, message: &[u8], course: Course, input: &mut [u8]) -> Stand<Course>
     ensures value { (result ≡ turned number message.now course input.old) × (result.had ≤ length input.old) }
     ensures input_after { input.new ≡ laid input.old 0 (rest_of whole_of input.old) }
 {
-    records::turn(course, &mut [], input, |course, _, pdu| {
-        judge(number, message, course, pdu)
-    })
+    records::turn(course, &mut [], input, &Judging { number, message })
 }
 
 // How many bytes stand before the PDUs, as far as those that are there can tell.

@@ -2,7 +2,11 @@
 -- `Reads.Post` is the contract as the source states it, read as plain facts.
 -- Assumes nothing.
 use mathlib.Core.Path.{◌≡◌}
+use mathlib.Core.List.{List}
+use Prim.Native.Nat.{ℕ}
 use Rattle.lists.proofs.Cases.{same}
+use Rattle.lines.specs.declared.Pen.{Pen}
+use Rattle.lines.specs.Pen.{Writes}
 use Rattle.lines.proofs.field.Reads as field
 use Rattle.lines.proofs.text.Reads as text
 use Rattle.lines.proofs.channel.Reads as channel
@@ -20,6 +24,12 @@ use Rattle.lines.proofs.refused.Reads as refused
 use Rattle.lines.proofs.reading_line.Reads as reading-line
 use Rattle.lines.proofs.totals_header.Reads as totals-header
 use Rattle.lines.proofs.totals_line.Reads as totals-line
+use Rattle.lines.proofs.Pen.text.Reads as pen-text
+use Rattle.lines.proofs.Pen.field.Reads as pen-field
+use Rattle.lines.proofs.Pen.channel.Reads as pen-channel
+use Rattle.lines.proofs.Pen.answer.Reads as pen-answer
+use Rattle.lines.proofs.Pen.bytes.Reads as pen-bytes
+use Rattle.lines.proofs.Pen.refused.Reads as pen-refused
 
 pub field_one : (κs : _) (a : _) (r r' : _) (s s' : _) → field.Post κs a r s → field.Post κs a r' s'
     → (r ≡ r') × (s.0.now ≡ s'.0.now)
@@ -87,3 +97,32 @@ totals_header_one κs a r r' s s' p q = (same p.0.0 q.0.0, same p.1 q.1)
 pub totals_line_one : (κs : _) (a : _) (r r' : _) (s s' : _) → totals-line.Post κs a r s → totals-line.Post κs a r' s'
     → (r ≡ r') × (s.0.now ≡ s'.0.now)
 totals_line_one κs a r r' s s' p q = (same p.0.0 q.0.0, same p.1 q.1)
+
+-- ---- the pen: its buffer, every byte, and its place
+
+wrote_one : {old new new' : Pen} {t : List ℕ} {m : ℕ} → Writes old new t m → Writes old new' t m → (new.out.now ≡ new'.out.now) × (new.at ≡ new'.at)
+wrote_one p q = (same p.out q.out, same p.at q.at)
+
+pub pen_text_one : (κs : _) (a : _) (r r' : _) (s s' : _) → pen-text.Post κs a r s → pen-text.Post κs a r' s'
+    → (s.0.now.out.now ≡ s'.0.now.out.now) × (s.0.now.at ≡ s'.0.now.at)
+pen_text_one κs a r r' s s' p q = wrote_one p q
+
+pub pen_field_one : (κs : _) (a : _) (r r' : _) (s s' : _) → pen-field.Post κs a r s → pen-field.Post κs a r' s'
+    → (s.0.now.out.now ≡ s'.0.now.out.now) × (s.0.now.at ≡ s'.0.now.at)
+pen_field_one κs a r r' s s' p q = wrote_one p q
+
+pub pen_channel_one : (κs : _) (a : _) (r r' : _) (s s' : _) → pen-channel.Post κs a r s → pen-channel.Post κs a r' s'
+    → (s.0.now.out.now ≡ s'.0.now.out.now) × (s.0.now.at ≡ s'.0.now.at)
+pen_channel_one κs a r r' s s' p q = wrote_one p q
+
+pub pen_answer_one : (κs g h b c e d l a : _) (r r' : _) (s s' : _) → pen-answer.Post κs g h b c e d l a r s → pen-answer.Post κs g h b c e d l a r' s'
+    → (s.0.now.out.now ≡ s'.0.now.out.now) × (s.0.now.at ≡ s'.0.now.at)
+pen_answer_one κs g h b c e d l a r r' s s' p q = wrote_one p q
+
+pub pen_bytes_one : (κs : _) (a : _) (r r' : _) (s s' : _) → pen-bytes.Post κs a r s → pen-bytes.Post κs a r' s'
+    → (s.0.now.out.now ≡ s'.0.now.out.now) × (s.0.now.at ≡ s'.0.now.at)
+pen_bytes_one κs a r r' s s' p q = wrote_one p q
+
+pub pen_refused_one : (κs : _) (a : _) (r r' : _) (s s' : _) → pen-refused.Post κs a r s → pen-refused.Post κs a r' s'
+    → (s.0.now.out.now ≡ s'.0.now.out.now) × (s.0.now.at ≡ s'.0.now.at)
+pen_refused_one κs a r r' s s' p q = wrote_one p q

@@ -1,11 +1,17 @@
 -- What a pen writes.
-use Rattle.std.specs.Prelude.{◌≡◌, ℕ, ◌+◌, ◌≤◌, List, length}
+use Rattle.std.specs.Prelude.{◌≡◌, ℕ, ◌+◌, ◌-◌, ◌^◌, ◌≤◌, min, List, length}
 use Rattle.lists.specs.Bytes.{laid}
 use Rattle.lines.specs.declared.Pen.{Pen}
 
--- a text of at most so many bytes is laid at the pen's place, which is behind it then; the pen still writes into the same buffer
+-- the greatest place. A slice has fewer bytes
+abbrev pub PLACE_MAX : ℕ
+PLACE_MAX = 2 ^ 64 - 1
+
+-- a text of at most so many bytes is laid at the pen's place, which is behind it then, or at the greatest; the pen still writes
+-- into the same buffer, which ends before that
 pub record Writes (old new : Pen) (text : List ℕ) (most : ℕ) : Type 0 where
   pub same : new.out.ghost_name ≡ old.out.ghost_name
+  pub small : length old.out.now ≤ PLACE_MAX
   pub out : new.out.now ≡ laid old.out.now old.at text
-  pub at : new.at ≡ old.at + length text
+  pub at : new.at ≡ min (old.at + length text) PLACE_MAX
   pub within : length text ≤ most

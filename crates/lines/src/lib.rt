@@ -12,7 +12,7 @@
 // any place on, and `hex_byte` gives its two. Bytes of the buffer behind them stay. A buffer that is too short gets as much as it has room for.
 #![tactic(auto)]
 
-ghost use Rattle.std.specs.Prelude.{◌≡◌, ℕ, ◌+◌, ◌*◌, ◌^◌, ◌≤◌, ◌<◌, List, Option, length, take, drop};
+ghost use Rattle.std.specs.Prelude.{◌≡◌, ℕ, ◌+◌, ◌*◌, ◌≤◌, ◌<◌, List, Option, length, take, drop};
 ghost use Rattle.paper.specs.Sizes.{MESSAGE_MAX};
 ghost use Rattle.lists.specs.Bytes.{laid};
 ghost use Rattle.channel.specs.Answers.{word_of, concern_of, number_of};
@@ -164,7 +164,8 @@ impl Spoken for Answer {
     }
 }
 
-// A buffer, and the place where its text goes on. Each method lays a text there, and the place is behind it then.
+// A buffer, and the place where its text goes on. Each method lays a text there, and the place is behind it then. It stops at the
+// greatest `usize`, past the end of any buffer.
 #[derive(Drop)]
 pub struct Pen<'a> {
     pub out: &'a mut [u8],
@@ -173,31 +174,27 @@ pub struct Pen<'a> {
 
 impl<'a> Pen<'a> {
     pub fn text(&mut self, bytes: &[u8])
-        requires { self.old.at + length bytes.now < 2 ^ 64 }
         ensures { Writes self.old self.new bytes.now (length bytes.now) }
     {
-        self.at += text(self.out, self.at, bytes);
+        self.at = self.at.saturating_add(text(self.out, self.at, bytes));
     }
 
     // A number's field.
     pub fn field(&mut self, n: u64, end: u8)
-        requires { self.old.at + FIELD_MAX < 2 ^ 64 }
         ensures { Writes self.old self.new (field n end) FIELD_MAX }
     {
-        self.at += field(self.out, self.at, n, end);
+        self.at = self.at.saturating_add(field(self.out, self.at, n, end));
     }
 
     // The channel's number and a space, or `- `.
     pub fn channel(&mut self, concern: Option<u32>)
-        requires { self.old.at + FIELD_MAX < 2 ^ 64 }
         ensures { Writes self.old self.new (channel_field concern) FIELD_MAX }
     {
-        self.at += channel(self.out, self.at, concern);
+        self.at = self.at.saturating_add(channel(self.out, self.at, concern));
     }
 
     // The fields of an answer: its word, channel and number, and the length of what is sent with the byte that ends them.
     pub fn answer<T: Spoken>(&mut self, answer: T, sent: usize, end: u8)
-        requires { self.old.at + ANSWER_MAX < 2 ^ 64 }
         ensures { Writes self.old self.new (fields_text (T.word answer) (T.concern answer) (T.number answer) sent end) ANSWER_MAX }
     {
         self.text(answer.word());
@@ -208,7 +205,7 @@ impl<'a> Pen<'a> {
 
     // The digits of bytes.
     fn hex(&mut self, bytes: &[u8])
-        requires { (self.old.at + 2 * MESSAGE_MAX < 2 ^ 64) × (length bytes.now ≤ MESSAGE_MAX) }
+        requires { length bytes.now ≤ MESSAGE_MAX }
         ensures { Writes self.old self.new (hex_of bytes.now) (2 * MESSAGE_MAX) }
     {
         for &byte in bytes {
@@ -218,7 +215,7 @@ impl<'a> Pen<'a> {
 
     // The bytes of a message, or `-` for none.
     fn message_bytes(&mut self, bytes: &[u8])
-        requires { (self.old.at + 2 * MESSAGE_MAX < 2 ^ 64) × (length bytes.now ≤ MESSAGE_MAX) }
+        requires { length bytes.now ≤ MESSAGE_MAX }
         ensures { Writes self.old self.new (bytes_field bytes.now) (2 * MESSAGE_MAX) }
     {
         if bytes.len() == 0 {
@@ -230,7 +227,6 @@ impl<'a> Pen<'a> {
 
     // The bytes of a message or of a PDU, at most 4,096: two digits each, and `-` for none.
     pub fn bytes(&mut self, bytes: &[u8])
-        requires { self.old.at + 2 * MESSAGE_MAX < 2 ^ 64 }
         ensures { Writes self.old self.new (bytes_field (take MESSAGE_MAX bytes.now)) (2 * MESSAGE_MAX) }
     {
         let n = MESSAGE_MAX.min(bytes.len());
@@ -239,7 +235,6 @@ impl<'a> Pen<'a> {
 
     // `refused` and a refusal's number.
     pub fn refused(&mut self, refusal: u8)
-        requires { self.old.at + REFUSED_MAX < 2 ^ 64 }
         ensures { Writes self.old self.new (refused_line refusal) REFUSED_MAX }
     {
         self.text(b"refused ");
@@ -248,7 +243,6 @@ impl<'a> Pen<'a> {
 
     // What reading said: `ok` where the refusal's number is 0, and else the refusal.
     fn verdict(&mut self, refusal: u8)
-        requires { self.old.at + REFUSED_MAX < 2 ^ 64 }
         ensures { Writes self.old self.new (verdict_field refusal) REFUSED_MAX }
     {
         if refusal == 0 {
@@ -298,10 +292,9 @@ pub fn line(out: &mut [u8], place: u64, answer: Answer, sent: usize) -> usize
     answer_line(out, place, answer, sent)
 }
 
-// The line of a place and a word of at most eight letters, which has its end with it.
+// The line of a place and a word, which has its end with it. It has at most `LINE_MAX` bytes where the word has at most eight letters.
 pub fn placed(out: &mut [u8], place: u64, word: &[u8]) -> usize
-    requires { length word.now ≤ WORD_MAX }
-    ensures value { (result ≡ length (placed_line place word.now)) × (result ≤ LINE_MAX) }
+    ensures value { (result ≡ length (placed_line place word.now)) × (length word.now ≤ WORD_MAX → result ≤ LINE_MAX) }
     ensures out_after { out.new ≡ laid out.old 0 (placed_line place word.now) }
 {
     let mut pen = Pen { out, at: 0 };

@@ -9,7 +9,7 @@
 // the records that the block made whole, which `whole` takes apart. Any bytes are read: a bad block takes with it the records that touch it.
 #![tactic(auto)]
 
-ghost use Rattle.std.specs.Prelude.{◌≡◌, true, ◌++◌, ◌+◌, ◌-◌, ◌*◌, ◌≤◌, ◌<◌, length, take, drop, IfSome};
+ghost use Rattle.std.specs.Prelude.{◌≡◌, true, ◌++◌, ◌+◌, ◌-◌, ◌*◌, ◌≤◌, ◌<◌, cond, nat_lt, length, take, drop, IfSome};
 ghost use Rattle.lists.specs.Bytes.{laid};
 ghost use Rattle.blocks.specs.Block.{BLOCK, HEAD, PAYLOAD, block_of, used_in, place_in, may_begin};
 ghost use Rattle.records.specs.Records.{found};
@@ -317,26 +317,43 @@ fn needs(input: &[u8]) -> usize
     LENGTH + usize::from(announced)
 }
 
+// So many bytes, where they are there.
+#[tactic(auto, using(std::proofs::lemmas::Bool::Decides::nat_tests), unfolding(records::specs::Records::found))]
+fn there(input: &[u8], n: usize) -> Option<usize>
+    requires { 0 < n }
+    ensures value { result ≡ found (cond (nat_lt (length input.now) n) 0 n) }
+    ensures within { IfSome result (λ k. (k ≡ n) × (n ≤ length input.now)) }
+{
+    (n <= input.len()).then_some(n)
+}
+
 // How many bytes the record at the front has, where a whole one stands there: any length but a close's announces a PDU.
 #[tactic(auto, using(std::proofs::lemmas::Bool::Decides::nat_tests), unfolding(records::specs::Records::found, records::specs::Desk::whole_by))]
 pub fn framed(input: &[u8]) -> Option<usize>
     ensures value { result ≡ found (whole_by needs_of input.now) }
     ensures within { IfSome result (λ n. (LENGTH ≤ n) × (n ≤ length input.now)) }
 {
-    let n = needs(input);
-    (n <= input.len()).then_some(n)
+    there(input, needs(input))
 }
 
-// How many bytes the record at the front has, where a whole one stands there that a log can have.
-#[tactic(auto, using(std::proofs::lemmas::Bool::Decides::nat_tests), unfolding(records::specs::Records::found, crate::specs::Records::logged_whole))]
+// How many bytes the record at the front has, where a whole one stands there that a log can have. A close is told apart first: with one
+// size for either kind, reading a log of closes takes half as long again.
+#[tactic(auto, using(std::proofs::lemmas::Bool::Decides::nat_tests), unfolding(records::specs::Records::found, crate::specs::Records::logged_whole, crate::specs::Records::is_stray, crate::specs::Records::needs_of, records::specs::Desk::whole_by, records::specs::Records::announced, numbers::specs::Numbers::value_at))]
 pub fn whole(input: &[u8]) -> Option<usize>
     ensures value { result ≡ found (logged_whole input.now) }
     ensures within { IfSome result (λ n. (LENGTH ≤ n) × (n ≤ length input.now)) }
 {
-    if is_stray(input) {
+    if input.len() < LENGTH {
         return None;
     }
-    framed(input)
+    let announced = numbers::short_at(input, 0);
+    if u32::from(announced) == CLOSE {
+        return there(input, CLOSE_SIZE);
+    }
+    if CUT < usize::from(announced) {
+        return None;
+    }
+    there(input, LENGTH + usize::from(announced))
 }
 
 // How many bytes the whole records at the front have.

@@ -6,17 +6,8 @@ use mathlib.Core.List.{List, [], ◌∷◌, ◌++◌}
 use Prim.Native.Nat.{ℕ}
 use borrow.Author.Tests.{eq-eqb, eqb-true}
 use lib.Dec.{eqb}
-use lib.Pointwise.{pointwise}
 use Rattle.lists.proofs.Cases.{both}
 use Rattle.listeners.specs.Listeners.{same_bytes}
-
--- it is the library's test
-pub same_pointwise : (a b : List ℕ) → same_bytes a b ≡ pointwise eqb a b
-unfolding same_bytes
-same_pointwise [] [] = refl
-same_pointwise [] (y ∷ b) = refl
-same_pointwise (x ∷ a) [] = refl
-same_pointwise (x ∷ a) (y ∷ b) = rw (same_pointwise a b)
 
 -- equal names match
 pub same_self : (a : List ℕ) → same_bytes a a ≡ true

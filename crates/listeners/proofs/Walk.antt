@@ -9,16 +9,14 @@ use native.Mathlib.Omega.{arith}
 use native.Mathlib.Numerals.{add-one}
 use borrow.Author.Tests.{ne_eqb}
 use lib.Dec.{eqb}
-use lib.Pointwise.{pointwise}
 use lib.ListN.{length, take, drop, length-drop}
 use Rattle.lists.specs.Places.{place}
 use Rattle.lists.specs.Bytes.{is_zero}
 use Rattle.lists.proofs.Cuts.{cut_at_law, cut_on, clean_on, length_on, clean_last}
 use Rattle.lists.proofs.Laid.{to_end}
 use Rattle.lists.proofs.Places.{clean_before}
-use Rattle.listeners.specs.Listeners.{names, is_one_of, all_names}
+use Rattle.listeners.specs.Listeners.{names, same_bytes, is_one_of, all_names}
 use Rattle.listeners.proofs.Names.{Clean, names_none}
-use Rattle.listeners.proofs.Matches.{same_pointwise}
 use Rattle.listeners.proofs.Lists.{all_none, all_empty, all_unended, all_front, one_none, one_front}
 use Rattle.listeners.proofs.Lists.{good_all, too_long, listed_names, empty_unlisted}
 
@@ -65,13 +63,13 @@ module _ (list name behind : List ℕ) (cut : list ≡ name ++ (0 ∷ behind)) (
       none [] h = all_empty behind
       none (b ∷ name) h = absurd (omega arith)
 
-  one_on : (x : List ℕ) → is_one_of (names list) x ≡ (pointwise eqb name x || is_one_of (names behind) x)
-  one_on x = rw (cut, ← (same_pointwise name x)) (one_front name behind x clean)
+  one_on : (x : List ℕ) → is_one_of (names list) x ≡ (same_bytes name x || is_one_of (names behind) x)
+  one_on x = rw cut (one_front name behind x clean)
 
-  pub one_here : (x : List ℕ) → pointwise eqb name x ≡ true → is_one_of (names list) x ≡ true
+  pub one_here : (x : List ℕ) → same_bytes name x ≡ true → is_one_of (names list) x ≡ true
   one_here x e = rw e at (one_on x)
 
-  pub one_next : (x : List ℕ) → pointwise eqb name x ≡ false → is_one_of (names list) x ≡ is_one_of (names behind) x
+  pub one_next : (x : List ℕ) → same_bytes name x ≡ false → is_one_of (names list) x ≡ is_one_of (names behind) x
   one_next x e = rw e at (one_on x)
 
 -- with no name left

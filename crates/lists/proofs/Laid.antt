@@ -1,13 +1,13 @@
 -- The laws of bytes laid over a list.
 -- Assumes nothing.
-use mathlib.Core.Path.{◌≡◌, refl, ap, ◌∙◌}
+use mathlib.Core.Path.{◌≡◌, refl, ◌∙◌}
 use mathlib.Core.List.{List, [], ◌∷◌, ◌++◌, append_assoc, append-nil}
 use Prim.Native.Nat.{ℕ, zero, suc, ◌+◌, ◌-◌, ◌≤◌, ◌<◌, min}
 use native.Mathlib.Nat.{add-sub_cancel_left}
+use native.Mathlib.Numerals.{add-one}
 use native.Mathlib.Omega.{arith}
-use lib.ListN.{length, take, drop, set, length-set, length-drop, length-take, length-replicate, drop_of_length-le}
-use lib.Seq.{sets-eq, length-sets, set_out, take_at, take_all, drop-drop, paste}
-use Rattle.std.proofs.lemmas.List.Edits.{paste_all}
+use lib.ListN.{length, take, drop, get_or, set, length-set, length-drop, length-replicate, drop_of_length-le}
+use lib.Seq.{sets-eq, length-sets, set_out, drop-cons, take_at, take_all, drop-drop}
 use mathlib.Core.Logic.{⊎_elim}
 use borrow.Rule.Slice.PartMut.{put_mid}
 use Rattle.lists.proofs.Cases.{lt_or_le}
@@ -78,6 +78,21 @@ laid_fits l at (b ∷ bs) =
     (λ (h : length l ≤ at). let none : length l - at ≡ 0 = omega arith in rw (none, laid_past l at (b ∷ bs) h))
     (lt_or_le at (length l))
 
+-- one turn of a copy: the byte at i is laid, and those behind it are still to come
+pub laid_turn : (l bs : List ℕ) (i : ℕ) → i < length bs
+    → laid (set l i (get_or bs i 0)) (i + 1) (drop (i + 1) bs) ≡ laid l i (drop i bs)
+unfolding laid
+laid_turn l bs i h = rw (add-one, drop-cons bs i 0 h)
+
+-- a copy that has come to the end of either list
+pub laid_end : (l bs : List ℕ) (i : ℕ) → min (length l) (length bs) ≤ i → laid l i (drop i bs) ≡ l
+unfolding laid
+laid_end l bs i h =
+    ⊎_elim
+    (λ (k : i < length l). rw (drop_of_length-le bs {i = i} (omega arith)))
+    (λ (k : length l ≤ i). laid_past l i (drop i bs) k)
+    (lt_or_le i (length l))
+
 -- laid bytes stand at the front
 pub front : (l bs : List ℕ) → length bs ≤ length l → take (length bs) (laid l 0 bs) ≡ bs
 front l bs h = rw (laid_eq l 0 bs (omega arith)) (take_at bs (drop (0 + length bs) l) (length bs) refl)
@@ -104,25 +119,6 @@ take_least (suc n) [] = let e : min (suc n) 0 ≡ 0 = omega arith in rw e
 take_least (suc n) (x ∷ l) =
     let e : min (suc n) (suc (length l)) ≡ suc (min n (length l)) = omega arith in
     rw (e, take_least n l)
-
--- as many bytes as both lists have, copied to the front
-pub laid_front : (l bs : List ℕ) (n : ℕ) → n ≡ min (length l) (length bs) → take n bs ++ drop n l ≡ laid l 0 bs
-laid_front l bs n e =
-    let all : take (length l - 0) bs ≡ take n bs = rw (← (take_least (length l - 0) bs)) (ap (λ (k : ℕ). take k bs) (omega arith)) in
-    let size : length (take n bs) ≡ n = simp length-take (omega arith) in
-    let sum : 0 + n ≡ n = omega arith in
-    rw (← (laid_fits l 0 bs), all, laid_eq l 0 (take n bs) (omega arith), size, sum)
-
--- a list's own end, moved to its front
-pub laid_moved : (l : List ℕ) (from : ℕ) → from ≤ length l → paste l 0 (drop from l) (length l - from) ≡ laid l 0 (drop from l)
-laid_moved l from h =
-    let size : length (drop from l) ≡ length l - from = length-drop from l in
-    rw (laid_eq l 0 (drop from l) (omega arith), size) (paste_all l 0 (drop from l) (length l - from) (omega arith))
-
--- a list laid over itself from the front, or nothing
-pub laid_same : (l : List ℕ) (from : ℕ) → (0 < from → length l ≤ from) → laid l 0 (drop from l) ≡ l
-laid_same l zero h = whole l l refl
-laid_same l (suc from) h = rw (drop_of_length-le l {i = suc from} (h (omega arith))) (laid_none l 0)
 
 -- a part of n that is lent from a place on
 pub from_to : (l : List ℕ) (at n : ℕ) → take (at + n - at) (drop at l) ≡ take n (drop at l)

@@ -10,12 +10,15 @@ ghost use Rattle.lists.specs.Places.{place};
 ghost use Rattle.lists.specs.Lines.{first_line, behind_line};
 
 // Copies the block to the front of the part. Bytes behind it stay, and what doesn't fit is left out.
-#[tactic(auto, using(crate::proofs::Laid::laid_front))]
+//
+// By index, here and in `to_front`: the library's copies need `memmove` of whoever links an archive for C, which loops don't.
 pub fn copy(part: &mut [u8], block: &[u8])
     ensures { part.new ≡ laid part.old 0 block.now }
 {
     let n = part.len().min(block.len());
-    part[..n].copy_from_slice(&block[..n]);
+    for i in 0..n {
+        part[i] = block[i];
+    }
 }
 
 // Copies the block into the part from a place on. Bytes before and behind it stay, and what doesn't fit is left out.
@@ -30,12 +33,14 @@ pub fn copy_at(part: &mut [u8], at: usize, block: &[u8])
 }
 
 // Moves the bytes from a place on to the front. Bytes behind where they come to stay.
-#[tactic(auto, using(crate::proofs::Laid::laid_moved, crate::proofs::Laid::laid_same))]
 pub fn to_front(bytes: &mut [u8], from: usize)
     ensures { bytes.new ≡ laid bytes.old 0 (drop from bytes.old) }
 {
-    if 0 < from && from < bytes.len() {
-        bytes.copy_within(from.., 0);
+    if from == 0 {
+        return;
+    }
+    for i in from..bytes.len() {
+        bytes[i - from] = bytes[i];
     }
 }
 

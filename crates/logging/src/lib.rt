@@ -9,10 +9,10 @@
 // anything.
 #![tactic(auto)]
 
-ghost use Rattle.std.specs.Prelude.{◌≡◌, ◌+◌, ◌*◌, ◌≤◌, length, take, drop, IfOk};
+ghost use Rattle.std.specs.Prelude.{◌≡◌, ◌+◌, ◌*◌, ◌≤◌, length, take, drop, IfOk, IfSome};
 ghost use Rattle.lists.specs.Bytes.{laid};
 ghost use Rattle.numbers.specs.Numbers.{value_at};
-ghost use Rattle.records.specs.Records.{LENGTH};
+ghost use Rattle.records.specs.Records.{LENGTH, found};
 ghost use Rattle.records.specs.Walks.{records_of, size_of, rest_of};
 ghost use Rattle.blocks.specs.Block.{BLOCK, PAYLOAD};
 ghost use Rattle.lines.specs.Decimal.{FIELD_MAX};
@@ -74,6 +74,15 @@ struct Walked {
     course: Course,
     taken: usize,
     laid: usize,
+}
+
+// How many bytes the record at the front has, where a whole one stands there.
+#[tactic(auto, using(std::proofs::lemmas::Bool::Decides::nat_tests), unfolding(crate::specs::Input::input_whole, records::specs::Records::found, records::specs::Desk::whole_by))]
+fn whole(input: &[u8]) -> Option<usize>
+    ensures value { result ≡ found (input_whole input.now) }
+    ensures within { IfSome result (λ n. (LENGTH ≤ n) × (n ≤ length input.now)) }
+{
+    linklog::framed(input)
 }
 
 // Appends what a record of the input says.
@@ -189,7 +198,7 @@ fn walk(course: Course, input: &[u8], room: &mut [u8], out: &mut [u8]) -> Walked
     let mut at = 0;
     let mut used = 0;
     // Records have varying sizes.
-    while let Some(n) = linklog::framed(&input[at..]) {
+    while let Some(n) = whole(&input[at..]) {
         let end = at + n;
         let stepped = step(next, &input[at..end], room, out, used);
         next = stepped.course;

@@ -12,6 +12,7 @@ ghost use Rattle.logging.specs.Lines.{SAID_MAX};
 
 use blocks::BLOCK;
 use files::{ARGUMENT, Failed};
+use lines::REFUSED_MAX;
 use linklog::{ROOM, Reader};
 use logging::SAID_MAX;
 use std::io::{Read, Seek, SeekFrom};
@@ -102,7 +103,7 @@ fn report<R: Read>(
     match logging::judge(size) {
         Ok(blocks) => read(rt, file, name, blocks),
         Err(why) => {
-            let mut out = [0u8; SAID_MAX];
+            let mut out = [0u8; REFUSED_MAX];
             let said = lines::refused(&mut out, 0, paper::refusal_number(why));
             files::write(rt, &out[..said])
         }

@@ -89,6 +89,7 @@ fn claim_in(line: &[u8], byte: u8) -> Option<Option<u16>>
 }
 
 // Whether our table has what a line says.
+#[tactic(auto, using(crate::proofs::Numbers::same_claim))]
 fn agree(claim: Option<Option<u16>>, byte: u8) -> bool
     ensures { result ≡ agrees claim byte }
 {

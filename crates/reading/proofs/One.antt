@@ -8,6 +8,7 @@ use Rattle.reading.proofs.read_strict.Reads as read-strict
 use Rattle.reading.proofs.carries.Reads as carries
 use Rattle.reading.proofs.charges_at.Reads as charges-at
 use Rattle.reading.proofs.verdict.Reads as verdict
+use Rattle.reading.proofs.Extent.of.Reads as of
 use Rattle.reading.proofs.dvc_strict.Reads as dvc-strict
 
 pub read_one : (κs : _) (a : _) (r r' : _) (s s' : _) → read.Post κs a r s → read.Post κs a r' s'
@@ -25,6 +26,10 @@ carries_one κs a r r' s s' p q = same p q
 pub charges_at_one : (κs : _) (a : _) (r r' : _) (s s' : _) → charges-at.Post κs a r s → charges-at.Post κs a r' s'
     → r ≡ r'
 charges_at_one κs a r r' s s' p q = same p q
+
+pub of_one : (κs : _) (a : _) (r r' : _) (s s' : _) → of.Post κs a r s → of.Post κs a r' s'
+    → r.now ≡ r'.now
+of_one κs a r r' s s' p q = same p q
 
 pub verdict_one : (κs : _) (a : _) (r r' : _) (s s' : _) → verdict.Post κs a r s → verdict.Post κs a r' s'
     → r ≡ r'

@@ -3,4 +3,3 @@ pub mod Desk
 pub mod Walks
 pub mod Items
 pub mod Pdus
-pub mod Calls

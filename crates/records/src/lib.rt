@@ -12,9 +12,8 @@ ghost use Rattle.lists.specs.Bytes.{laid};
 ghost use Rattle.records.specs.Records.{found, whole_of};
 ghost use Rattle.records.specs.Desk.{NEEDS_MAX, desk_needs, desk_whole, message_needs, link_needs, link_whole};
 ghost use Rattle.records.specs.Walks.{due_for, records_of, size_of, rest_of};
-ghost use Rattle.std.specs.List.{FoldsTo};
+ghost use Rattle.records.specs.Items.{after_items};
 ghost use Rattle.records.specs.Pdus.{pdus_in};
-ghost use Rattle.records.specs.Calls.{Calls};
 
 // The bytes of a record's length.
 pub const LENGTH: usize = 2;
@@ -178,24 +177,28 @@ pub fn due_for(front: Option<usize>) -> Due
     }
 }
 
-// Walks through the whole records at the front of the input: the step is called for each PDU, with what is kept so far and with
-// what is lent.
-fn walk<C, F: Fn(C, &mut [u8], &[u8]) -> C>(
-    course: C,
-    lent: &mut [u8],
-    input: &[u8],
-    step: F,
-) -> Walked<C>
-    requires { F.IsAlwaysCallable step }
+// What a program does with a PDU, as a step of a walk.
+pub trait Step<C> {
+    // What a PDU makes of what is kept so far and of the bytes that are lent.
+    ghost after: { Self → C × List ℕ → List ℕ → C × List ℕ };
+
+    // Takes a PDU. Answers what is kept then.
+    fn take(&self, course: C, lent: &mut [u8], pdu: &[u8]) -> C
+        ensures { (result, lent.new) ≡ after self.now (course, lent.old) pdu.now };
+}
+
+// Walks through the whole records at the front of the input: the step takes each PDU, with what is kept so far and with what is
+// lent.
+fn walk<C, S: Step<C>>(course: C, lent: &mut [u8], input: &[u8], step: &S) -> Walked<C>
     ensures taken_value { (result.taken ≡ size_of (records_of whole_of input.now)) × (result.taken ≤ length input.now) }
-    ensures calls { FoldsTo (Calls (F.post step)) (course, lent.old) (pdus_in input.now) (result.course, lent.new) }
+    ensures steps { (result.course, lent.new) ≡ after_items (S.after step.now) (course, lent.old) (pdus_in input.now) }
 {
     let mut next = course;
     let mut rest = input;
     // Records have varying sizes: no iterator of the library's goes from one to the next.
     while let Some(n) = whole(rest) {
         let (record, behind) = rest.split_at(n);
-        next = step(next, lent, &record[LENGTH..]);
+        next = step.take(next, lent, &record[LENGTH..]);
         rest = behind;
     }
     Walked {
@@ -204,16 +207,10 @@ fn walk<C, F: Fn(C, &mut [u8], &[u8]) -> C>(
     }
 }
 
-// Takes the whole records of the input that is there, what was left and behind it what was read: the step is called for each PDU.
-// What is left then comes to the input's front.
-pub fn turn<C, F: Fn(C, &mut [u8], &[u8]) -> C>(
-    course: C,
-    lent: &mut [u8],
-    input: &mut [u8],
-    step: F,
-) -> Stand<C>
-    requires { F.IsAlwaysCallable step }
-    ensures calls { FoldsTo (Calls (F.post step)) (course, lent.old) (pdus_in input.old) (result.course, lent.new) }
+// Takes the whole records of the input that is there, what was left and behind it what was read: the step takes each PDU. What is
+// left then comes to the input's front.
+pub fn turn<C, S: Step<C>>(course: C, lent: &mut [u8], input: &mut [u8], step: &S) -> Stand<C>
+    ensures steps { (result.course, lent.new) ≡ after_items (S.after step.now) (course, lent.old) (pdus_in input.old) }
     ensures had { (result.had ≡ length (rest_of whole_of input.old)) × (result.had ≤ length input.old) }
     ensures input_after { input.new ≡ laid input.old 0 (rest_of whole_of input.old) }
 {

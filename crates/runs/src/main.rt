@@ -5,18 +5,7 @@
 // 6. A file that can't be opened or read is said on standard error, and ends the run.
 #![tactic(auto)]
 
-use files::{ARGUMENT, Failed};
-use std::rt::{Env, Files};
-
-// Walks through the files that so many arguments name.
-fn run(rt: &(impl Env + Files + Print + Eprint), count: usize) -> Result<(), Failed> {
-    for i in 0..count {
-        let mut name = [0u8; ARGUMENT];
-        let n = files::file_name(rt, i + 1, b"runs: a file's name", &mut name)?;
-        stream::walk_file(rt, &name[..n], b"PUMP\0")?;
-    }
-    Ok(())
-}
+use files::ARGUMENT;
 
 fn main(rt: HostRuntime) {
     let count = files::arguments(&rt);
@@ -24,5 +13,13 @@ fn main(rt: HostRuntime) {
         files::complain(&rt, b"runs: name the files to walk through\n");
         return;
     }
-    let _ = run(&rt, count);
+    for i in 0..count {
+        let mut name = [0u8; ARGUMENT];
+        let Ok(n) = files::file_name(&rt, i + 1, b"runs: a file's name", &mut name) else {
+            return;
+        };
+        if stream::walk_file(&rt, &name[..n], b"PUMP\0").is_err() {
+            return;
+        }
+    }
 }

@@ -6,18 +6,18 @@
 // ends the run.
 #![tactic(auto)]
 
-use files::Failed;
-use std::rt::Files;
-
-// Walks through each file with its list.
-fn run(rt: &(impl Files + Print + Eprint)) -> Result<(), Failed> {
-    stream::walk_file(rt, b"examples", b"testdvc\0")?;
-    stream::walk_file(rt, b"numbers", b"testdvc\0")?;
-    // 'Lists: empty is good; one zero byte alone gives 6.'
-    stream::walk_file(rt, b"create", b"")?;
-    stream::walk_file(rt, b"create", b"\0")
-}
+// The files, each with its list. 'Lists: empty is good; one zero byte alone gives 6.'
+const FILES: [(&[u8], &[u8]); 4] = [
+    (b"examples", b"testdvc\0"),
+    (b"numbers", b"testdvc\0"),
+    (b"create", b""),
+    (b"create", b"\0"),
+];
 
 fn main(rt: HostRuntime) {
-    let _ = run(&rt);
+    for (name, list) in FILES {
+        if stream::walk_file(&rt, name, list).is_err() {
+            return;
+        }
+    }
 }

@@ -1,14 +1,16 @@
 -- The shore end as a host in C calls it: what the host keeps in bytes that it lends, the answer in one number.
-use Rattle.std.specs.Prelude.{ℕ, Bool, true, false, cond, not, ◌||◌, List, eqb, ltb, length}
+use Rattle.std.specs.Prelude.{ℕ, Bool, true, false, cond, not, ◌||◌, List, Option, None, Some, eqb, ltb, length}
 use Rattle.paper.specs.Sizes.{PARTS, STORE, REPLY_MIN, PDU_MAX}
 use Rattle.lists.specs.Bytes.{laid}
 use Rattle.reading.specs.Reading.{read_pdu}
 use Rattle.reading.specs.declared.Charges.{Charges}
 use Rattle.shore.specs.declared.Shore.{Shore}
 use Rattle.shore.specs.Saying.{concern_said}
+use Rattle.shore.specs.declared.Matter.{Matter}
 use Rattle.shore.specs.Events.{Event}
 use Rattle.shore.specs.Asking.{heard_in, closing_of}
 use Rattle.shore.specs.Shore.{Stepped, Whole, Sends, called, received, locally_closed, requested, locally_opened, started}
+use Rattle.client.specs.declared.Asked.{Asked}
 use Rattle.client.specs.Client.{place_for}
 use Rattle.saved.specs.Saved.{SHORE, saved, table_in, asked_in, is_state, is_good}
 use Rattle.packing.specs.Packing.{packed_said}
@@ -68,6 +70,11 @@ unfoldable pub dvc_shore_started : List ℕ → List ℕ → Begins
 dvc_shore_started state store = begins SHORE (started store).shore.table state store
 
 -- ---- the same, as the code has it. Nobody need believe what follows: proofs/Calls shows that it is so.
+
+-- what the host asks: a close of the number, if one is given, and else what the PDU asks
+unfoldable pub asked_by : Option ℕ → List ℕ → Asked Matter
+asked_by None pdu = heard_in pdu (read_pdu false pdu)
+asked_by (Some n) pdu = closing_of n
 
 -- refusal 1 where a PDU is written: its buffer in place of store and reply
 unfoldable pub bad_out_face : List ℕ → ℕ → Bool

@@ -14,13 +14,24 @@ ghost use Rattle.saved.specs.Saved.{STATE, SHORE, table_in, is_good};
 ghost use Rattle.packing.specs.Packing.{packed_said};
 ghost use Rattle.client_face.specs.Face.{no_state};
 ghost use Rattle.shore_face.specs.Face.{shore_in, dvc_shore_received, dvc_shore_closed, dvc_shore_requested, dvc_shore_opened, dvc_shore_started};
-ghost use Rattle.shore_face.specs.Face.{bad_out_face, Gives, faces};
+ghost use Rattle.shore_face.specs.Face.{asked_by, bad_out_face, Gives, faces};
 
 use channel::Change;
 use client::Asked;
 use paper::{PARTS, PDU_MAX, Refusal};
 use reading::Charges;
 use shore::{Matter, Said};
+
+// What the host asks: a close of the number, if one is given, and else what the PDU asks.
+#[tactic(auto, unfolding(crate::specs::Face::asked_by))]
+fn asked(closes: Option<u32>, pdu: &[u8]) -> Asked<Matter>
+    ensures { result ≡ asked_by closes pdu.now }
+{
+    match closes {
+        Some(number) => shore::closing(number),
+        None => shore::hear(pdu),
+    }
+}
 
 // Refusal 1 where a PDU is written: its buffer in place of store and reply.
 fn bad_out(state: &[u8], room: usize) -> bool
@@ -85,26 +96,28 @@ fn taken(
     packing::pack_said(said, number, k, sent)
 }
 
-// A call that is lent the store and the reply: refusal 1, and behind it what is asked, which each end does in its own way.
+// A call that is lent the store and the reply: refusal 1, and behind it what is asked, which each end does in its own way. It is worked
+// out here, as at the client end.
 fn call(
     state: &mut [u8],
     store: &mut [u8],
-    asked: Asked<Matter>,
+    closes: Option<u32>,
     pdu: &[u8],
     reply: &mut [u8],
 ) -> u64
     ensures value { result ≡ (faces state.old store.old
-        (event_asked asked pdu.now) reply.old).answer }
+        (event_asked (asked_by closes pdu.now) pdu.now) reply.old).answer }
     ensures state_after { state.new ≡ (faces state.old store.old
-        (event_asked asked pdu.now) reply.old).state }
+        (event_asked (asked_by closes pdu.now) pdu.now) reply.old).state }
     ensures store_after { store.new ≡ (faces state.old store.old
-        (event_asked asked pdu.now) reply.old).store }
+        (event_asked (asked_by closes pdu.now) pdu.now) reply.old).store }
     ensures reply_after { reply.new ≡ (faces state.old store.old
-        (event_asked asked pdu.now) reply.old).reply }
+        (event_asked (asked_by closes pdu.now) pdu.now) reply.old).reply }
 {
     if client_face::bad(saved::SHORE, true, state, store.len(), reply.len()) {
         return refused();
     }
+    let asked = asked(closes, pdu);
     taken(
         state,
         store,
@@ -149,7 +162,7 @@ pub extern "C" fn dvc_shore_receive(
     ensures store_after { store.new ≡ (dvc_shore_received state.old store.old pdu.now reply.old).store }
     ensures reply_after { reply.new ≡ (dvc_shore_received state.old store.old pdu.now reply.old).reply }
 {
-    call(state, store, shore::hear(pdu), pdu, reply)
+    call(state, store, None, pdu, reply)
 }
 
 // The host closes a channel. The reply is a Close.
@@ -165,7 +178,7 @@ pub extern "C" fn dvc_shore_local_close(
     ensures store_after { store.new ≡ (dvc_shore_closed state.old store.old number reply.old).store }
     ensures reply_after { reply.new ≡ (dvc_shore_closed state.old store.old number reply.old).reply }
 {
-    call(state, store, shore::closing(number), b"", reply)
+    call(state, store, Some(number), b"", reply)
 }
 
 // The Capabilities request, once, of the host's version and charges. It goes to the buffer of a written PDU.

@@ -8,7 +8,6 @@ ghost use Rattle.std.specs.Prelude.{◌≡◌};
 ghost use Rattle.strict.specs.Senders.{named_by};
 
 use files::ARGUMENT;
-use std::rt::Env;
 use walking::Job;
 
 // The words for who sent the PDUs.
@@ -29,25 +28,18 @@ fn named(word: &[u8]) -> Option<bool>
     None
 }
 
-// Whether the server sent the PDUs, by the program's one argument.
-fn asked(rt: &impl Env) -> Option<bool> {
-    if files::arguments(rt) != 1 {
-        return None;
-    }
-    let mut word = [0u8; ARGUMENT];
-    // One that is too long names nobody.
-    let n = files::argument(rt, 1, &mut word)?;
-    named(&word[..n])
-}
-
 fn main(rt: HostRuntime) {
-    let Some(from_server) = asked(&rt) else {
-        files::complain(
+    let mut word = [0u8; ARGUMENT];
+    // One that is missing or too long comes as nothing, which names nobody.
+    let n = files::argument(&rt, 1, &mut word).unwrap_or(0);
+    match named(&word[..n]) {
+        Some(from_server) if files::arguments(&rt) == 1 => {
+            let job = Job::Strict { from_server };
+            let _ = stream::run(&rt, job, &mut rt.reader(), b"standard input", b"");
+        }
+        _ => files::complain(
             &rt,
             b"strict: call it as `strict server` or `strict client`, by who sent the PDUs on standard input\n",
-        );
-        return;
-    };
-    let job = Job::Strict { from_server };
-    let _ = stream::run(&rt, job, &mut rt.reader(), b"standard input", b"");
+        ),
+    }
 }

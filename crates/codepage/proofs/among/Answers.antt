@@ -1,17 +1,21 @@
--- `codepage::among` meets its contract: the byte of a code point is the place of its entry.
+-- `codepage::among` meets its contract: a code point that is not its own place is looked for where such entries stand.
 use Rattle.std.proofs.Common.{◌∙◌, sym, arith}
 use Rattle.codepage.specs.Points.{points}
-use Rattle.codepage.proofs.Points.{found_in_table, place_byte}
+use Rattle.codepage.proofs.Points.{found_apart, none_apart}
 use Rattle.codepage.proofs.among.Goals as goal
 
 pub overflow_cast-result : goal.overflow_cast-result
 unfolding points
-overflow_cast-result c = let small = place_byte c.args.point c.in_ok-byte.byte (sym c.in_ok-byte.was ∙ c.place.ensures) in omega (arith, small)
+overflow_cast-result c =
+    let found = found_apart c.args.point c.in_ok-i.i (λ z. omega (arith, z, c.requires.1)) (sym c.place.ensures ∙ c.in_ok-i.was) in
+    omega (arith, found.0)
 
-pub returns-in_err-byte : goal.returns-in_err-byte
+pub returns-in_err-i : goal.returns-in_err-i
 unfolding points
-returns-in_err-byte c = c.from_residual.ensures ∙ sym c.in_err-byte.was ∙ c.place.ensures ∙ found_in_table c.args.point (λ z. omega arith)
+returns-in_err-i c = c.from_residual.ensures ∙ sym (none_apart c.args.point c.requires.0 (sym c.place.ensures ∙ c.in_err-i.was))
 
 pub returns : goal.returns
 unfolding points
-returns c = sym c.in_ok-byte.was ∙ c.place.ensures ∙ found_in_table c.args.point (λ z. omega arith)
+returns c =
+    let found = found_apart c.args.point c.in_ok-i.i (λ z. omega (arith, z, c.requires.1)) (sym c.place.ensures ∙ c.in_ok-i.was) in
+    sym found.1

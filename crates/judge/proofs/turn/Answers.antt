@@ -1,5 +1,5 @@
--- `judge::turn` meets its contract: each call of its step judges a PDU.
-use Rattle.std.proofs.Common.{ℕ, List, refl, rules}
+-- `judge::turn` meets its contract: each step judges a PDU.
+use Rattle.std.proofs.Common.{ℕ, List, refl, ap, ◌∙◌}
 use Rattle.records.proofs.Calls.{all_made}
 use Rattle.judge.specs.declared.Course.{Course}
 use Rattle.judge.specs.Judge.{course_after}
@@ -10,5 +10,6 @@ pub returns-clause-value : goal.returns-clause-value
 unfolding turned
 returns-clause-value c =
     let a = c.args in
-    let judged = all_made (λ (course : Course) (lent : List ℕ). course) (course_after a.number a.message.now) (λ course lent pdu next left call. search rules) _ _ _ c.turn.ensures.calls in
+    let seen = λ (at : Course × List ℕ). at.0 in
+    let judged = ap seen c.turn.ensures.steps ∙ all_made seen _ (course_after a.number a.message.now) (λ at pdu. refl) _ _ in
     rw (← judged, ← c.turn.ensures.had.0) (refl, c.turn.ensures.had.1)

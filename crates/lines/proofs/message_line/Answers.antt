@@ -5,14 +5,6 @@ use Rattle.lines.specs.Lines.{message_line_of, MESSAGE_LINE_MAX}
 use Rattle.lines.proofs.Pens.{then}
 use Rattle.lines.proofs.message_line.Goals as goal
 
-pub bytes-requires : goal.bytes-requires
-unfolding MESSAGE_MAX
-bytes-requires c = let w = then c.field.ensures c.field-2.ensures in omega (arith, w.at, w.within)
-
-pub text-requires : goal.text-requires
-unfolding MESSAGE_MAX
-text-requires c = let w = then (then c.field.ensures c.field-2.ensures) c.bytes.ensures in omega (arith, w.at, w.within)
-
 pub returns-clause-value : goal.returns-clause-value
 unfolding message_line_of MESSAGE_LINE_MAX MESSAGE_MAX
 returns-clause-value c =

@@ -27,7 +27,7 @@ in_front records at n within is =
     (some.0, (omega (arith, some, head), omega (arith, some, fits, long)))
 
 pub loop-n-init : goal.loop-n-init
-loop-n-init c = begins _ _
+loop-n-init c = begins _ _ (omega arith) (omega arith)
 
 pub slice_bounds-whole-count : goal.slice_bounds-whole-count
 slice_bounds-whole-count c = omega (arith, c.loop-n.invariant.leads.0)

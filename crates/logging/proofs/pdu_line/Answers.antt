@@ -14,4 +14,4 @@ returns c =
     let pdu = c.args.pdu.now in
     let spelled = rw (take_all 4096 pdu (omega (arith, c.requires.0))) at c.bytes.ensures in
     let w = then (then (then c.text.ensures c.field.ensures) spelled) c.text-2.ensures in
-    record { same = w.same; out = w.out; at = w.at; within = simp length-append (omega (arith, c.field.ensures.within, digits_le pdu)) }
+    record { same = w.same; small = w.small; out = w.out; at = w.at; within = simp length-append (omega (arith, c.field.ensures.within, digits_le pdu)) }

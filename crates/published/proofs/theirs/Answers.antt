@@ -15,4 +15,4 @@ returns-in-Some-None c =
 
 pub returns-in-None : goal.returns-in-None
 unfolding their_text
-returns-in-None c = rw c.in-None.is (at_most _ (nothing _) (omega arith))
+returns-in-None c = rw c.in-None.is (at_most _ (nothing _ (omega arith) (omega arith)) (omega arith))

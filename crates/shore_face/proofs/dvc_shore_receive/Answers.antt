@@ -1,9 +1,11 @@
 -- `shore_face::dvc_shore_receive` meets its contract: the call with the PDU's event.
+use Rattle.shore_face.specs.Face.{asked_by}
 use Rattle.shore_face.proofs.Calls.{receives}
 use Rattle.shore_face.proofs.dvc_shore_receive.Goals as goal
 
 pub returns : goal.returns
+unfolding asked_by
 returns c =
     let a = c.args in
-    let did = rw c.hear.ensures at c.call.ensures in
+    let did = c.call.ensures in
     rw (receives a.state.now a.store.now a.pdu.now a.reply.now) (record { value = did.value; state_after = did.state_after; store_after = did.store_after; reply_after = did.reply_after })

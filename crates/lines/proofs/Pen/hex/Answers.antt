@@ -1,10 +1,11 @@
+use Rattle.std.proofs.Common.{arith}
 use Rattle.lines.specs.Hex.{hex_byte, hex_of}
 use Rattle.lines.proofs.Pens.{nothing, hex_more}
 use Rattle.lines.proofs.Pen.hex.Goals as goal
 
 pub loop-byte-init : goal.loop-byte-init
 unfolding hex_of
-loop-byte-init c = nothing _
+loop-byte-init c = nothing _ (omega arith) (omega arith)
 
 pub loop-byte-preserved : goal.loop-byte-preserved
 unfolding hex_byte

@@ -5,10 +5,6 @@ use Rattle.lines.proofs.Spelling.{field_none, field_some}
 use Rattle.lines.proofs.Pens.{at_most}
 use Rattle.lines.proofs.Pen.message_bytes.Goals as goal
 
-pub text-requires : goal.text-requires
-unfolding MESSAGE_MAX
-text-requires c = omega arith
-
 pub returns-then-bytes-eq0 : goal.returns-then-bytes-eq0
 unfolding MESSAGE_MAX
 returns-then-bytes-eq0 c = rw (field_none _ c.if-bytes-eq0.true) (at_most _ c.text.ensures (omega arith))
