@@ -3,3 +3,4 @@ pub mod Ends
 pub mod Spelling
 pub mod One
 pub mod Pens
+pub mod Lays

@@ -6,7 +6,7 @@ use mathlib.Core.List.{List}
 use Prim.Native.Nat.{ℕ}
 use Rattle.lists.proofs.Cases.{same}
 use Rattle.lines.specs.declared.Pen.{Pen}
-use Rattle.lines.specs.Pen.{Writes}
+use Rattle.lines.specs.Pen.{Lays}
 use Rattle.lines.proofs.field.Reads as field
 use Rattle.lines.proofs.text.Reads as text
 use Rattle.lines.proofs.channel.Reads as channel
@@ -100,7 +100,7 @@ totals_line_one κs a r r' s s' p q = (same p.0.0 q.0.0, same p.1 q.1)
 
 -- ---- the pen: its buffer, every byte, and its place
 
-wrote_one : {old new new' : Pen} {t : List ℕ} {m : ℕ} → Writes old new t m → Writes old new' t m → (new.out.now ≡ new'.out.now) × (new.at ≡ new'.at)
+wrote_one : {old new new' : Pen} {t : List ℕ} {m : ℕ} → Lays old new t m → Lays old new' t m → (new.out.now ≡ new'.out.now) × (new.at ≡ new'.at)
 wrote_one p q = (same p.out q.out, same p.at q.at)
 
 pub pen_text_one : (κs : _) (a : _) (r r' : _) (s s' : _) → pen-text.Post κs a r s → pen-text.Post κs a r' s'

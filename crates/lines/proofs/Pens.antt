@@ -1,52 +1,37 @@
 -- What a pen writes in several steps.
 -- Assumes nothing.
 use Rattle.std.proofs.Common.{◌≡◌, ℕ, ◌+◌, ◌*◌, ◌≤◌, ◌<◌, min, List, [], ◌∷◌, ◌++◌, length, take, get_or, refl, sym, arith, length-append, append_assoc, append-nil, ◌∙◌}
-use mathlib.Core.Logic.{⊎_elim}
 use Rattle.std.proofs.lemmas.List.{take_more}
 use Rattle.lists.specs.Bytes.{laid}
-use Rattle.lists.proofs.Cases.{lt_or_le}
-use Rattle.lists.proofs.Laid.{laid_behind, laid_least, laid_past}
+use Rattle.lists.proofs.Laid.{laid_behind, laid_least}
 use Rattle.lines.specs.declared.Pen.{Pen}
 use Rattle.lines.specs.Hex.{hex_byte, hex_of}
-use Rattle.lines.specs.Pen.{PLACE_MAX, Writes}
-
--- a place that stopped is past the end, as the one where it would have stood is
-laid_stopped : (l : List ℕ) (at : ℕ) (bs : List ℕ) → length l ≤ PLACE_MAX → laid l (min at PLACE_MAX) bs ≡ laid l at bs
-laid_stopped l at bs small =
-    ⊎_elim
-    (λ (h : at < PLACE_MAX). let e : min at PLACE_MAX ≡ at = omega arith in rw e)
-    (λ (h : PLACE_MAX ≤ at). rw (laid_past l at bs (omega arith)) (laid_past l (min at PLACE_MAX) bs (omega arith)))
-    (lt_or_le at PLACE_MAX)
+use Rattle.lines.specs.Pen.{Writes}
 
 -- a text, and a text behind it
 pub then : {a b c : Pen} {s t : List ℕ} {m n : ℕ} → Writes a b s m → Writes b c t n → Writes a c (s ++ t) (m + n)
 then {a} {b} {c} {s} {t} p q = record {
   same = q.same ∙ p.same;
-  small = p.small;
-  out = rw (p.at, laid_stopped b.out.now (a.at + length s) t q.small, p.out) at q.out ∙ laid_behind a.out.now a.at s t;
+  out = rw (p.out, p.at) at q.out ∙ laid_behind a.out.now a.at s t;
   at = simp length-append (omega (arith, p.at, q.at));
   within = simp length-append (omega (arith, p.within, q.within));
 }
 
--- a place that does not stop is behind the text
-pub behind : {a b : Pen} {s : List ℕ} {m : ℕ} → Writes a b s m → a.at + m ≤ PLACE_MAX → b.at ≡ a.at + length s
-behind p h = omega (arith, p.at, p.within)
-
 -- at most more
 pub at_most : {a b : Pen} {s : List ℕ} {m : ℕ} (n : ℕ) → Writes a b s m → m ≤ n → Writes a b s n
-at_most n p h = record { same = p.same; small = p.small; out = p.out; at = p.at; within = omega (arith, p.within) }
+at_most n p h = record { same = p.same; out = p.out; at = p.at; within = omega (arith, p.within) }
 
 -- nothing
-pub nothing : (a : Pen) → length a.out.now ≤ PLACE_MAX → a.at ≤ PLACE_MAX → Writes a a [] 0
+pub nothing : (a : Pen) → Writes a a [] 0
 unfolding laid
-nothing a small there = record { same = refl; small = small; out = refl; at = omega arith; within = omega arith }
+nothing a = record { same = refl; out = refl; at = omega arith; within = omega arith }
 
 -- from whatever place: past the end nothing is laid
 pub from_least : {a b : Pen} {s : List ℕ} {m : ℕ} (at : ℕ) → Writes a b s m → a.at ≡ min at (length a.out.now) → b.out.now ≡ laid a.out.now at s
 from_least {a} {b} {s} at p h = p.out ∙ rw h (laid_least a.out.now at s)
 
 -- the digits of one more byte
-hex_append : (bytes : List ℕ) (byte : ℕ) → hex_of (bytes ++ byte ∷ []) ≡ hex_of bytes ++ hex_byte byte
+pub hex_append : (bytes : List ℕ) (byte : ℕ) → hex_of (bytes ++ byte ∷ []) ≡ hex_of bytes ++ hex_byte byte
 unfolding hex_of
 hex_append [] byte = append-nil (hex_byte byte)
 hex_append (b ∷ bytes) byte = rw (hex_append bytes byte) (sym (append_assoc (hex_byte b) (hex_of bytes) (hex_byte byte)))

@@ -22,7 +22,7 @@ ghost use Rattle.lines.specs.Lines.{WORD_MAX, ANSWER_MAX, LINE_MAX, header_line,
 ghost use Rattle.lines.specs.Lines.{answer_fields, answer_line, line_of, placed_line, cut_line_of};
 ghost use Rattle.lines.specs.Lines.{message_line_of, MESSAGE_LINE_MAX, reading_header, REFUSED_MAX, refused_line, verdict_field, reading_line_of};
 ghost use Rattle.lines.specs.Lines.{totals_header, totals_line_of};
-ghost use Rattle.lines.specs.Pen.{Writes};
+ghost use Rattle.lines.specs.Pen.{Lays};
 ghost use Rattle.lines.specs.declared.Handed.{Handed};
 ghost use Rattle.lines.specs.Spoken.{message_of};
 
@@ -174,28 +174,28 @@ pub struct Pen<'a> {
 
 impl<'a> Pen<'a> {
     pub fn text(&mut self, bytes: &[u8])
-        ensures { Writes self.old self.new bytes.now (length bytes.now) }
+        ensures { Lays self.old self.new bytes.now (length bytes.now) }
     {
         self.at = self.at.saturating_add(text(self.out, self.at, bytes));
     }
 
     // A number's field.
     pub fn field(&mut self, n: u64, end: u8)
-        ensures { Writes self.old self.new (field n end) FIELD_MAX }
+        ensures { Lays self.old self.new (field n end) FIELD_MAX }
     {
         self.at = self.at.saturating_add(field(self.out, self.at, n, end));
     }
 
     // The channel's number and a space, or `- `.
     pub fn channel(&mut self, concern: Option<u32>)
-        ensures { Writes self.old self.new (channel_field concern) FIELD_MAX }
+        ensures { Lays self.old self.new (channel_field concern) FIELD_MAX }
     {
         self.at = self.at.saturating_add(channel(self.out, self.at, concern));
     }
 
     // The fields of an answer: its word, channel and number, and the length of what is sent with the byte that ends them.
     pub fn answer<T: Spoken>(&mut self, answer: T, sent: usize, end: u8)
-        ensures { Writes self.old self.new (fields_text (T.word answer) (T.concern answer) (T.number answer) sent end) ANSWER_MAX }
+        ensures { Lays self.old self.new (fields_text (T.word answer) (T.concern answer) (T.number answer) sent end) ANSWER_MAX }
     {
         self.text(answer.word());
         self.channel(answer.concern());
@@ -206,7 +206,7 @@ impl<'a> Pen<'a> {
     // The digits of bytes.
     fn hex(&mut self, bytes: &[u8])
         requires { length bytes.now ≤ MESSAGE_MAX }
-        ensures { Writes self.old self.new (hex_of bytes.now) (2 * MESSAGE_MAX) }
+        ensures { Lays self.old self.new (hex_of bytes.now) (2 * MESSAGE_MAX) }
     {
         for &byte in bytes {
             self.text(&hex_byte(byte));
@@ -216,7 +216,7 @@ impl<'a> Pen<'a> {
     // The bytes of a message, or `-` for none.
     fn message_bytes(&mut self, bytes: &[u8])
         requires { length bytes.now ≤ MESSAGE_MAX }
-        ensures { Writes self.old self.new (bytes_field bytes.now) (2 * MESSAGE_MAX) }
+        ensures { Lays self.old self.new (bytes_field bytes.now) (2 * MESSAGE_MAX) }
     {
         if bytes.len() == 0 {
             self.text(b"-");
@@ -227,7 +227,7 @@ impl<'a> Pen<'a> {
 
     // The bytes of a message or of a PDU, at most 4,096: two digits each, and `-` for none.
     pub fn bytes(&mut self, bytes: &[u8])
-        ensures { Writes self.old self.new (bytes_field (take MESSAGE_MAX bytes.now)) (2 * MESSAGE_MAX) }
+        ensures { Lays self.old self.new (bytes_field (take MESSAGE_MAX bytes.now)) (2 * MESSAGE_MAX) }
     {
         let n = MESSAGE_MAX.min(bytes.len());
         self.message_bytes(&bytes[..n]);
@@ -235,7 +235,7 @@ impl<'a> Pen<'a> {
 
     // `refused` and a refusal's number.
     pub fn refused(&mut self, refusal: u8)
-        ensures { Writes self.old self.new (refused_line refusal) REFUSED_MAX }
+        ensures { Lays self.old self.new (refused_line refusal) REFUSED_MAX }
     {
         self.text(b"refused ");
         self.field(refusal as u64, b'\n');
@@ -243,7 +243,7 @@ impl<'a> Pen<'a> {
 
     // What reading said: `ok` where the refusal's number is 0, and else the refusal.
     fn verdict(&mut self, refusal: u8)
-        ensures { Writes self.old self.new (verdict_field refusal) REFUSED_MAX }
+        ensures { Lays self.old self.new (verdict_field refusal) REFUSED_MAX }
     {
         if refusal == 0 {
             self.text(b"ok\n");

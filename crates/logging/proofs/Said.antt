@@ -9,7 +9,7 @@ use lib.ListN.{length, take, drop}
 use Rattle.lists.proofs.Cases.{lt_or_le}
 use Rattle.lines.specs.declared.Pen.{Pen}
 use Rattle.lines.specs.Hex.{bytes_field}
-use Rattle.lines.specs.Pen.{PLACE_MAX, Writes}
+use Rattle.lines.specs.Pen.{Writes}
 use Rattle.lines.proofs.Pens.{then, at_most, nothing}
 use Rattle.lines.proofs.Spelling.{length_hex, field_none, field_some}
 use Rattle.records.specs.Walks.{front_of}
@@ -48,8 +48,8 @@ pub record Left (input : List ℕ) (start pen : Pen) (at : ℕ) : Type 0 where
   pub writes : Writes start pen text (TEXT_PER_BYTE * at)
 
 -- it begins with nothing taken and nothing laid
-pub begins : (input : List ℕ) (pen : Pen) → length pen.out.now ≤ PLACE_MAX → pen.at ≤ PLACE_MAX → Left input pen pen 0
-begins input pen small there = record { text = []; leads = (omega arith, (refl, omega arith)); writes = nothing pen small there }
+pub begins : (input : List ℕ) (pen : Pen) → Left input pen pen 0
+begins input pen = record { text = []; leads = (omega arith, (refl, omega arith)); writes = nothing pen }
 
 module _ (input : List ℕ) (start pen : Pen) (at : ℕ) (left : Left input start pen at) where
   -- the record in front is taken, and its line is laid behind the others

@@ -16,7 +16,7 @@ ghost use Rattle.records.specs.Records.{LENGTH, found};
 ghost use Rattle.records.specs.Walks.{records_of, size_of, rest_of};
 ghost use Rattle.blocks.specs.Block.{BLOCK, PAYLOAD};
 ghost use Rattle.lines.specs.Decimal.{FIELD_MAX};
-ghost use Rattle.lines.specs.Pen.{Writes};
+ghost use Rattle.lines.specs.Pen.{Lays};
 ghost use Rattle.linklog.specs.Records.{Received, Closed, entry_in, record_of};
 ghost use Rattle.linklog.specs.Appending.{ROOM, last_at, last_in, answer_for, room_then};
 ghost use Rattle.logging.specs.Input.{input_whole};
@@ -268,7 +268,7 @@ pub fn finish(log: Log, room: &[u8], out: &mut [u8]) -> usize
 // The line of a local close.
 fn close_line(pen: &mut Pen, bytes: &[u8])
     requires { (LENGTH ≤ length bytes.now) × (pen.old.at ≤ SAID_MAX) }
-    ensures { Writes pen.old pen.new (entry_line (Closed (value_at bytes.now LENGTH 4))) (6 + FIELD_MAX) }
+    ensures { Lays pen.old pen.new (entry_line (Closed (value_at bytes.now LENGTH 4))) (6 + FIELD_MAX) }
 {
     let number = numbers::number(&bytes[LENGTH..]);
     pen.text(b"close ");
@@ -278,7 +278,7 @@ fn close_line(pen: &mut Pen, bytes: &[u8])
 // The line of a PDU.
 fn pdu_line(pen: &mut Pen, pdu: &[u8])
     requires { (length pdu.now ≤ ROOM) × (pen.old.at ≤ SAID_MAX) }
-    ensures { Writes pen.old pen.new (entry_line (Received pdu.now)) (4 + FIELD_MAX + 2 * length pdu.now + 2) }
+    ensures { Lays pen.old pen.new (entry_line (Received pdu.now)) (4 + FIELD_MAX + 2 * length pdu.now + 2) }
 {
     pen.text(b"pdu ");
     pen.field(pdu.len() as u64, b' ');
@@ -289,7 +289,7 @@ fn pdu_line(pen: &mut Pen, pdu: &[u8])
 // The line of a record.
 fn line(pen: &mut Pen, bytes: &[u8])
     requires { (LENGTH ≤ length bytes.now) × ((length bytes.now ≤ ROOM) × (pen.old.at ≤ SAID_MAX)) }
-    ensures { Writes pen.old pen.new (entry_line (entry_in bytes.now)) (TEXT_PER_BYTE * length bytes.now) }
+    ensures { Lays pen.old pen.new (entry_line (entry_in bytes.now)) (TEXT_PER_BYTE * length bytes.now) }
 {
     let announced = numbers::short_at(bytes, 0);
     if u32::from(announced) == CLOSE {

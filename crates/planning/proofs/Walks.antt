@@ -3,7 +3,7 @@
 use Rattle.std.proofs.Common.{◌≡◌, ℕ, ◌+◌, ◌-◌, ◌*◌, ◌<◌, ◌≤◌, min, Bool, true, false, cond, ltb, List, [], ◌++◌, length, take, drop, sym, refl, ap, arith, length-append, length-drop, ltb-false, ltb-true, take_at, drop_at, drop-drop, ◌/◌, ◌∙◌}
 use Rattle.paper.specs.Sizes.{SETS_MAX}
 use Rattle.lines.specs.declared.Pen.{Pen}
-use Rattle.lines.specs.Pen.{PLACE_MAX, Writes}
+use Rattle.lines.specs.Pen.{Writes}
 use Rattle.lines.proofs.Pens.{then, at_most, nothing}
 use Rattle.reading.specs.declared.Charges.{Charges}
 use Rattle.records.specs.Walks.{front_of, records_of, size_of}
@@ -35,9 +35,9 @@ pub record Left (c : Course) (input : List ℕ) (first pen : Pen) (next : Course
   pub by_input : SET * length text ≤ FOUR_MAX * at
 
 -- it begins with nothing taken and nothing laid
-pub begins : (c : Course) (input : List ℕ) (first : Pen) → length first.out.now ≤ PLACE_MAX → first.at ≤ PLACE_MAX → Left c input first first c 0
-begins c input first small there =
-    record { text = []; leads = (omega arith, (refl, omega arith)); wrote = at_most _ (nothing first small there) (omega arith); by_input = omega arith }
+pub begins : (c : Course) (input : List ℕ) (first : Pen) → Left c input first first c 0
+begins c input first =
+    record { text = []; leads = (omega arith, (refl, omega arith)); wrote = at_most _ (nothing first) (omega arith); by_input = omega arith }
 
 -- the set in front is taken, and its line is laid behind the others
 pub goes_on_law :
@@ -55,7 +55,7 @@ goes_on_law c input first pen pen' next next' at left there e writes =
     record {
       text = left.text ++ line_for next set;
       leads = rw e (rw whole at on);
-      wrote = record { same = both.same; small = both.small; out = both.out; at = both.at; within = rw e (simp length-append room) };
+      wrote = record { same = both.same; out = both.out; at = both.at; within = rw e (simp length-append room) };
       by_input = simp length-append (omega (arith, left.by_input, writes.within));
     }
 
@@ -80,8 +80,8 @@ pub record Goes (c : Course) (input : List ℕ) (first pen : Pen) (next : Course
   pub rest_is : rest ≡ drop at input
   pub left : Left c input first pen next at
 
-pub goes : (c : Course) (input : List ℕ) (first : Pen) → length first.out.now ≤ PLACE_MAX → first.at ≤ PLACE_MAX → Goes c input first first c input
-goes c input first small there = record { at = 0; rest_is = refl; left = begins c input first small there }
+pub goes : (c : Course) (input : List ℕ) (first : Pen) → Goes c input first first c input
+goes c input first = record { at = 0; rest_is = refl; left = begins c input first }
 
 pub goes_on : {c next next' : Course} {input rest : List ℕ} {first pen pen' : Pen} (set rest' : List ℕ) → Goes c input first pen next rest → rest ≡ set ++ rest'
     → length set ≡ SET → next' ≡ course_after next (charges_in set) → Writes pen pen' (line_for next (charges_in set)) FOUR_MAX → Goes c input first pen' next' rest'

@@ -10,7 +10,7 @@
 ghost use Rattle.std.specs.Prelude.{◌≡◌, ◌*◌, ◌<◌, ◌≤◌, length};
 ghost use Rattle.paper.specs.Sizes.{SETS_MAX};
 ghost use Rattle.lists.specs.Bytes.{laid};
-ghost use Rattle.lines.specs.Pen.{Writes};
+ghost use Rattle.lines.specs.Pen.{Lays};
 ghost use Rattle.records.specs.Walks.{records_of, size_of, rest_of};
 ghost use Rattle.planning.specs.Sets.{SET, set_extent, charges_in};
 ghost use Rattle.planning.specs.Lines.{FOUR_MAX, LAST_MAX, four_line, last_line};
@@ -78,7 +78,7 @@ fn add(sums: Sums, shares: Shares) -> Sums
 // The line of four numbers.
 fn four(pen: &mut Pen, a: u64, b: u64, c: u64, d: u64)
     requires { pen.old.at ≤ TEXT_MAX }
-    ensures { Writes pen.old pen.new (four_line a b c d) FOUR_MAX }
+    ensures { Lays pen.old pen.new (four_line a b c d) FOUR_MAX }
 {
     pen.field(a, b' ');
     pen.field(b, b' ');
@@ -90,7 +90,7 @@ fn four(pen: &mut Pen, a: u64, b: u64, c: u64, d: u64)
 fn share(course: Course, set: &[u8], pen: &mut Pen) -> Course
     requires { (course.sets < SETS_MAX) × (pen.old.at ≤ TEXT_MAX) }
     ensures course_value { result ≡ course_after course (charges_in set.now) }
-    ensures line { Writes pen.old pen.new (line_for course (charges_in set.now)) FOUR_MAX }
+    ensures line { Lays pen.old pen.new (line_for course (charges_in set.now)) FOUR_MAX }
 {
     let shares = charges::shares_of(reading::charges_at(set, 0));
     four(
@@ -110,7 +110,7 @@ fn share(course: Course, set: &[u8], pen: &mut Pen) -> Course
 fn step(course: Course, set: &[u8], pen: &mut Pen) -> Course
     requires { pen.old.at ≤ TEXT_MAX }
     ensures course_value { result ≡ course_after course (charges_in set.now) }
-    ensures line { Writes pen.old pen.new (line_for course (charges_in set.now)) FOUR_MAX }
+    ensures line { Lays pen.old pen.new (line_for course (charges_in set.now)) FOUR_MAX }
 {
     if SETS_MAX <= course.sets {
         return Course {

@@ -9,7 +9,7 @@
 ghost use Rattle.std.specs.Prelude.{◌≡◌, None, ◌+◌, ◌*◌, ◌^◌, ◌≤◌, ◌<◌, length, IfSome, IfOk};
 ghost use Rattle.lists.specs.Bytes.{laid};
 ghost use Rattle.lists.specs.Lines.{lines_in};
-ghost use Rattle.lines.specs.Pen.{Writes};
+ghost use Rattle.lines.specs.Pen.{Lays};
 ghost use Rattle.codepage.specs.Points.{BYTES};
 ghost use Rattle.published.specs.Claims.{digit_in, pair_in, claim_behind, claim_in, agrees};
 ghost use Rattle.published.specs.Comparing.{wrong_from, point_text, our_text, their_text, DIFFERENCE_MAX, difference_of, differences_from};
@@ -125,7 +125,7 @@ fn wrong_line(file: &[u8]) -> Option<usize>
 // A code point's four digits.
 fn point_text(pen: &mut Pen, point: u16)
     requires { pen.old.at + 4 < 2 ^ 64 }
-    ensures { Writes pen.old pen.new (point_text point) 4 }
+    ensures { Lays pen.old pen.new (point_text point) 4 }
 {
     pen.text(&lines::hex_byte((point / 256) as u8));
     pen.text(&lines::hex_byte((point % 256) as u8));
@@ -134,7 +134,7 @@ fn point_text(pen: &mut Pen, point: u16)
 // Our entry: `-` for none.
 fn ours(pen: &mut Pen, point: u16)
     requires { pen.old.at + 4 < 2 ^ 64 }
-    ensures { Writes pen.old pen.new (our_text point) 4 }
+    ensures { Lays pen.old pen.new (our_text point) 4 }
 {
     if point == NONE {
         pen.text(b"-");
@@ -146,7 +146,7 @@ fn ours(pen: &mut Pen, point: u16)
 // The published one: `-` for none.
 fn theirs(pen: &mut Pen, claim: Option<Option<u16>>)
     requires { pen.old.at + 4 < 2 ^ 64 }
-    ensures { Writes pen.old pen.new (their_text claim) 4 }
+    ensures { Lays pen.old pen.new (their_text claim) 4 }
 {
     match claim {
         Some(Some(point)) => point_text(pen, point),

@@ -11,7 +11,7 @@ ghost use Rattle.std.specs.Prelude.{◌≡◌, true, ◌+◌, ◌*◌, ◌^◌, 
 ghost use Rattle.lists.specs.Bytes.{laid};
 ghost use Rattle.lists.specs.Lines.{lines_in};
 ghost use Rattle.lines.specs.Lines.{REFUSED_MAX};
-ghost use Rattle.lines.specs.Pen.{Writes};
+ghost use Rattle.lines.specs.Pen.{Lays};
 ghost use Rattle.listeners.specs.Listeners.{names, good_list};
 ghost use Rattle.viewing.specs.Ways.{way_by};
 ghost use Rattle.viewing.specs.Lists.{LINES_MAX, name_line, name_lines, shown_for, shown_in};
@@ -222,7 +222,7 @@ pub fn line_at(text: &[u8], at: usize) -> Line
 // Why a line is left out.
 fn reason(pen: &mut Pen, why: LeftOut)
     requires { pen.old.at + REFUSED_MAX < 2 ^ 64 }
-    ensures { Writes pen.old pen.new (reason_for why) REFUSED_MAX }
+    ensures { Lays pen.old pen.new (reason_for why) REFUSED_MAX }
 {
     match why {
         LeftOut::Empty => pen.text(b"it is empty\n"),

@@ -1,7 +1,7 @@
 -- `cause::line` meets its contract: each arm is a case of the definition, with each part laid behind the one before.
 use Rattle.std.proofs.Common.{arith, rules}
 use Rattle.lines.specs.Lines.{answer_fields}
-use Rattle.lines.proofs.Pens.{then}
+use Rattle.lines.proofs.Lays.{then}
 use Rattle.cause.specs.Why.{why_line}
 use Rattle.cause.proofs.line.Goals as goal
 use Rattle.cause.proofs.line.Goals.{in-SpoiledBy, in-ByRule}

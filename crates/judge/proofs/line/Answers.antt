@@ -1,6 +1,6 @@
 -- `judge::line` meets its contract: the place and the word stand behind the `no`.
 use Rattle.std.proofs.Common.{arith, rules}
-use Rattle.lines.proofs.Pens.{then}
+use Rattle.lines.proofs.Lays.{then}
 use Rattle.judge.specs.Sender.{judgement_line}
 use Rattle.judge.proofs.line.Goals as goal
 

@@ -1,7 +1,7 @@
 -- `lines::answer_line` meets its contract: the fields of the answer are laid behind the place.
 use Rattle.std.proofs.Common.{arith, rules}
 use Rattle.lines.specs.Lines.{answer_line}
-use Rattle.lines.proofs.Pens.{then}
+use Rattle.lines.proofs.Lays.{then}
 use Rattle.lines.proofs.answer_line.Goals as goal
 
 pub returns-clause-value : goal.returns-clause-value

@@ -1,6 +1,6 @@
 -- `lines::bytes_field` meets its contract. Past the end nothing is laid, from whatever place.
 use Rattle.std.proofs.Common.{arith, rules}
-use Rattle.lines.proofs.Pens.{from_least}
+use Rattle.lines.proofs.Lays.{from_least}
 use Rattle.lines.proofs.bytes_field.Goals as goal
 
 pub returns-clause-value : goal.returns-clause-value

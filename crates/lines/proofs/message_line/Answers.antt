@@ -2,7 +2,7 @@
 use Rattle.std.proofs.Common.{arith, rules}
 use Rattle.paper.specs.Sizes.{MESSAGE_MAX}
 use Rattle.lines.specs.Lines.{message_line_of, MESSAGE_LINE_MAX}
-use Rattle.lines.proofs.Pens.{then}
+use Rattle.lines.proofs.Lays.{then}
 use Rattle.lines.proofs.message_line.Goals as goal
 
 pub returns-clause-value : goal.returns-clause-value

@@ -1,7 +1,7 @@
 -- `lines::placed` meets its contract: the word is laid behind the place.
 use Rattle.std.proofs.Common.{arith, rules}
 use Rattle.lines.specs.Lines.{placed_line}
-use Rattle.lines.proofs.Pens.{then}
+use Rattle.lines.proofs.Lays.{then}
 use Rattle.lines.proofs.placed.Goals as goal
 
 pub returns-clause-value : goal.returns-clause-value

@@ -1,7 +1,7 @@
 -- `lines::reading_line` meets its contract: what reading said is laid behind the place.
 use Rattle.std.proofs.Common.{arith, rules}
 use Rattle.lines.specs.Lines.{reading_line_of}
-use Rattle.lines.proofs.Pens.{then}
+use Rattle.lines.proofs.Lays.{then}
 use Rattle.lines.proofs.reading_line.Goals as goal
 
 pub returns-clause-value : goal.returns-clause-value

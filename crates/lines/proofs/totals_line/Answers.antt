@@ -1,7 +1,7 @@
 -- `lines::totals_line` meets its contract: each field is laid behind the one before.
 use Rattle.std.proofs.Common.{arith, rules}
 use Rattle.lines.specs.Lines.{totals_line_of}
-use Rattle.lines.proofs.Pens.{then}
+use Rattle.lines.proofs.Lays.{then}
 use Rattle.lines.proofs.totals_line.Goals as goal
 
 pub returns-clause-value : goal.returns-clause-value

@@ -3,7 +3,7 @@ use mathlib.Core.Path.{ap, ◌∙◌}
 use Rattle.lists.proofs.Laid.{to_end}
 use Rattle.numbers.specs.Numbers.{value_of}
 use Rattle.records.specs.Records.{LENGTH}
-use Rattle.lines.proofs.Pens.{then}
+use Rattle.lines.proofs.Lays.{then}
 use Rattle.logging.specs.Lines.{entry_line}
 use Rattle.logging.proofs.Inputs.{number_behind}
 use Rattle.logging.proofs.close_line.Goals as goal

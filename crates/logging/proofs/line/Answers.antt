@@ -3,7 +3,7 @@ use mathlib.Core.Path.{◌∙◌}
 use lib.ListN.{length-drop}
 use Rattle.lists.proofs.Laid.{to_end}
 use Rattle.records.specs.Records.{LENGTH}
-use Rattle.lines.proofs.Pens.{at_most}
+use Rattle.lines.proofs.Lays.{at_most}
 use Rattle.logging.proofs.Inputs.{announced_is, is_close_law, is_pdu}
 use native.Mathlib.Omega.{arith}
 use Rattle.logging.proofs.line.Goals as goal

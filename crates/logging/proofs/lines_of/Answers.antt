@@ -7,6 +7,7 @@ use Rattle.records.specs.Records.{LENGTH}
 use Rattle.std.specs.Prelude.{Some}
 use Rattle.records.specs.Records.{found}
 use Rattle.records.proofs.Found.{none_found, some_found}
+use Rattle.lines.proofs.Lays.{writes}
 use Rattle.linklog.specs.Records.{logged_whole}
 use Rattle.linklog.proofs.Framing.{log_framing}
 use Rattle.logging.proofs.Inputs.{logged_head}
@@ -27,7 +28,7 @@ in_front records at n within is =
     (some.0, (omega (arith, some, head), omega (arith, some, fits, long)))
 
 pub loop-n-init : goal.loop-n-init
-loop-n-init c = begins _ _ (omega arith) (omega arith)
+loop-n-init c = begins _ _
 
 pub slice_bounds-whole-count : goal.slice_bounds-whole-count
 slice_bounds-whole-count c = omega (arith, c.loop-n.invariant.leads.0)
@@ -80,7 +81,10 @@ loop-n-preserved c =
     let n = c.in-Some.n in
     let front = in_front records l.at _ l.invariant.leads.0 (sym c.in-Some.is ∙ c.whole.ensures.value) in
     let long : length (take n (drop l.at records)) ≡ n = length-take n (drop l.at records) ∙ rw length-drop (omega (arith, front)) in
-    goes_on_law _ _ _ _ l.invariant _ n front.0 (omega (arith, front)) front.1.1 (rw (from_to records l.at n, long) at c.line.ensures)
+    let w = l.invariant.writes in
+    let line = rw (from_to records l.at n, long) at c.line.ensures in
+    goes_on_law _ _ _ _ l.invariant _ n front.0 (omega (arith, front)) front.1.1
+    (writes line (omega (arith, front, w.at, w.within, l.invariant.leads.0, c.requires)))
 
 pub returns : goal.returns
 returns c =

@@ -2,7 +2,7 @@
 use lib.ListN.{length-append}
 use lib.Seq.{take_all}
 use Rattle.paper.specs.Sizes.{MESSAGE_MAX}
-use Rattle.lines.proofs.Pens.{then}
+use Rattle.lines.proofs.Lays.{then}
 use Rattle.logging.specs.Lines.{entry_line}
 use Rattle.logging.proofs.Said.{digits_le}
 use native.Mathlib.Omega.{arith}

@@ -1,6 +1,6 @@
 -- `planning::four` meets its contract: each field is laid behind the one before.
 use Rattle.std.proofs.Common.{arith}
-use Rattle.lines.proofs.Pens.{then, at_most}
+use Rattle.lines.proofs.Lays.{then, at_most}
 use Rattle.planning.specs.Lines.{four_line}
 use Rattle.planning.proofs.four.Goals as goal
 

@@ -1,6 +1,6 @@
 -- `planning::say` meets its contract: each arm is a case of the definition, with each part laid behind the one before.
 use Rattle.std.proofs.Common.{arith, rules}
-use Rattle.lines.proofs.Pens.{then}
+use Rattle.lines.proofs.Lays.{then}
 use Rattle.planning.specs.Lines.{last_line}
 use Rattle.planning.proofs.say.Goals as goal
 use Rattle.planning.proofs.say.Goals.{in-Ok, in-Err}

@@ -1,7 +1,7 @@
 -- `planning::step` meets its contract: behind the limit nothing is laid, and within it `share` does what is asked.
 use Rattle.std.proofs.Common.{refl, arith, rules, le-ltb}
 use Rattle.paper.specs.Sizes.{SETS_MAX}
-use Rattle.lines.proofs.Pens.{nothing, at_most}
+use Rattle.lines.proofs.Lays.{nothing, at_most}
 use Rattle.planning.specs.Course.{course_after, line_for}
 use Rattle.planning.proofs.Sets.{sets_max}
 use Rattle.planning.proofs.step.Goals as goal

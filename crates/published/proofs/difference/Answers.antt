@@ -2,7 +2,7 @@
 use Rattle.std.proofs.Common.{refl, sym, ◌∙◌, arith, rules}
 use Rattle.lists.specs.Bytes.{laid}
 use Rattle.lines.specs.Hex.{hex_byte}
-use Rattle.lines.proofs.Pens.{then}
+use Rattle.lines.proofs.Lays.{then}
 use Rattle.published.specs.Comparing.{difference_of}
 use Rattle.published.proofs.difference.Goals as goal
 

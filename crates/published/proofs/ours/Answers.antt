@@ -2,7 +2,7 @@
 use Rattle.std.proofs.Common.{arith}
 use borrow.Author.Tests.{eq-eqb, ne_eqb}
 use Rattle.codepage.specs.Points.{NONE}
-use Rattle.lines.proofs.Pens.{at_most}
+use Rattle.lines.proofs.Lays.{at_most}
 use Rattle.published.specs.Comparing.{our_text}
 use Rattle.published.proofs.ours.Goals as goal
 

@@ -1,7 +1,7 @@
 -- `published::point_text` meets its contract: the two bytes' digits, one behind the other.
 use Rattle.lines.specs.Hex.{hex_byte}
 use Rattle.published.specs.Comparing.{point_text}
-use Rattle.lines.proofs.Pens.{then}
+use Rattle.lines.proofs.Lays.{then}
 use Rattle.published.proofs.point_text.Goals as goal
 
 pub returns : goal.returns

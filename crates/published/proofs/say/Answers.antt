@@ -1,6 +1,6 @@
 -- `published::say` meets its contract: each part is laid behind the one before.
 use Rattle.std.proofs.Common.{arith, rules}
-use Rattle.lines.proofs.Pens.{then}
+use Rattle.lines.proofs.Lays.{then}
 use Rattle.published.specs.Comparing.{wrong_line}
 use Rattle.published.proofs.say.Goals as goal
 

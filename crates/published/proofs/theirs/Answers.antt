@@ -1,6 +1,6 @@
 -- `published::theirs` meets its contract: each arm is a case of the definition.
 use Rattle.std.proofs.Common.{arith}
-use Rattle.lines.proofs.Pens.{nothing, at_most}
+use Rattle.lines.proofs.Lays.{nothing, at_most}
 use Rattle.published.specs.Comparing.{their_text}
 use Rattle.published.proofs.theirs.Goals as goal
 

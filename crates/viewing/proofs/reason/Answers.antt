@@ -1,6 +1,6 @@
 -- `viewing::reason` meets its contract: each arm is a case of the definition.
 use Rattle.std.proofs.Common.{arith}
-use Rattle.lines.proofs.Pens.{at_most}
+use Rattle.lines.proofs.Lays.{at_most}
 use Rattle.viewing.specs.Texts.{reason_for}
 use Rattle.viewing.proofs.reason.Goals as goal
 

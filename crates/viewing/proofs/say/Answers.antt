@@ -1,7 +1,7 @@
 -- `viewing::say` meets its contract: each part is laid behind the one before.
 use Rattle.std.proofs.Common.{refl, arith, rules}
 use Rattle.lists.specs.Bytes.{laid}
-use Rattle.lines.proofs.Pens.{then}
+use Rattle.lines.proofs.Lays.{then}
 use Rattle.viewing.specs.Texts.{left_out_line}
 use Rattle.viewing.proofs.say.Goals as goal
 

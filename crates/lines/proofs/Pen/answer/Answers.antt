@@ -1,7 +1,7 @@
 -- `Pen::answer` meets its contract: each field is laid behind the one before.
 use Rattle.std.proofs.Common.{arith}
 use Rattle.lines.specs.Lines.{ANSWER_MAX, fields_text}
-use Rattle.lines.proofs.Pens.{then, at_most}
+use Rattle.lines.proofs.Lays.{then, at_most}
 use Rattle.lines.proofs.Pen.answer.Goals as goal
 
 pub returns : goal.returns

@@ -1,6 +1,6 @@
 use Rattle.std.proofs.Common.{arith}
 use Rattle.lines.specs.Hex.{hex_byte, hex_of}
-use Rattle.lines.proofs.Pens.{nothing, hex_more}
+use Rattle.lines.proofs.Lays.{nothing, hex_more}
 use Rattle.lines.proofs.Pen.hex.Goals as goal
 
 pub loop-byte-init : goal.loop-byte-init

@@ -2,7 +2,7 @@
 use Rattle.std.proofs.Common.{arith}
 use Rattle.paper.specs.Sizes.{MESSAGE_MAX}
 use Rattle.lines.proofs.Spelling.{field_none, field_some}
-use Rattle.lines.proofs.Pens.{at_most}
+use Rattle.lines.proofs.Lays.{at_most}
 use Rattle.lines.proofs.Pen.message_bytes.Goals as goal
 
 pub returns-then-bytes-eq0 : goal.returns-then-bytes-eq0

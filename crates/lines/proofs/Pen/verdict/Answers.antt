@@ -2,7 +2,7 @@
 use Rattle.std.proofs.Common.{arith}
 use borrow.Author.Tests.{eq-eqb, ne_eqb}
 use Rattle.lines.specs.Lines.{verdict_field}
-use Rattle.lines.proofs.Pens.{at_most}
+use Rattle.lines.proofs.Lays.{at_most}
 use Rattle.lines.proofs.Pen.verdict.Goals as goal
 
 pub returns-then-refusal-eq0 : goal.returns-then-refusal-eq0
