@@ -108,11 +108,14 @@ ends_so = ends_by Writes writes
 lays : Way Lays
 lays = record { behind = stops.then; wider = stops.at_most }
 
-pub begins_any : (input : List ℕ) (pen : Pen) → length pen.out.now ≤ PLACE_MAX → pen.at ≤ PLACE_MAX → LeftBy Lays input pen pen 0
+abbrev pub LeftAny : List ℕ → Pen → Pen → ℕ → Type 0
+LeftAny = LeftBy Lays
+
+pub begins_any : (input : List ℕ) (pen : Pen) → length pen.out.now ≤ PLACE_MAX → pen.at ≤ PLACE_MAX → LeftAny input pen pen 0
 begins_any input pen small there = begins_by Lays input pen (stops.nothing pen small there)
 
-pub goes_on_any : GoesOn Lays
-goes_on_any = goes_on_by Lays lays
+pub goes_on_law_any : GoesOn Lays
+goes_on_law_any = goes_on_by Lays lays
 
-pub ends_any : EndsSo Lays
-ends_any = ends_by Lays lays
+pub ends_so_any : EndsSo Lays
+ends_so_any = ends_by Lays lays

@@ -165,20 +165,30 @@ lays : Way Lays
 lays =
     record { behind = stops.then; within = λ p. p.within; bound = λ n p h. record { same = p.same; small = p.small; out = p.out; at = p.at; within = h } }
 
-pub begins_any : (c : Course) (input : List ℕ) (first : Pen) → length first.out.now ≤ PLACE_MAX → first.at ≤ PLACE_MAX → LeftBy Lays c input first first c 0
+abbrev pub LeftAny : Course → List ℕ → Pen → Pen → Course → ℕ → Type 0
+LeftAny = LeftBy Lays
+
+pub begins_any : (c : Course) (input : List ℕ) (first : Pen) → length first.out.now ≤ PLACE_MAX → first.at ≤ PLACE_MAX → LeftAny c input first first c 0
 begins_any c input first small there = begins_by Lays lays c input first (stops.nothing first small there)
 
-pub goes_on_any : GoesOn Lays
-goes_on_any = goes_on_by Lays lays
+pub goes_on_law_any : GoesOn Lays
+goes_on_law_any = goes_on_by Lays lays
 
-pub ends_any : EndsSo Lays
-ends_any = ends_by Lays lays
+pub ends_so_any : EndsSo Lays
+ends_so_any = ends_by Lays lays
 
-pub goes_any : (c : Course) (input : List ℕ) (first : Pen) → length first.out.now ≤ PLACE_MAX → first.at ≤ PLACE_MAX → GoesBy Lays c input first first c input
+abbrev pub GoesAny : Course → List ℕ → Pen → Pen → Course → List ℕ → Type 0
+GoesAny = GoesBy Lays
+
+pub goes_any : (c : Course) (input : List ℕ) (first : Pen) → length first.out.now ≤ PLACE_MAX → first.at ≤ PLACE_MAX → GoesAny c input first first c input
 goes_any c input first small there = record { at = 0; rest_is = refl; left = begins_any c input first small there }
 
-pub takes_on_any : TakesOn Lays
-takes_on_any = takes_on_by Lays lays
+pub goes_on_any : {c next next' : Course} {input rest : List ℕ} {first pen pen' : Pen} (set rest' : List ℕ) → GoesAny c input first pen next rest
+    → rest ≡ set ++ rest' → length set ≡ SET → next' ≡ course_after next (charges_in set) → Lays pen pen' (line_for next (charges_in set)) FOUR_MAX
+    → GoesAny c input first pen' next' rest'
+goes_on_any {c} {next} {next'} {input} {rest} {first} {pen} {pen'} set = takes_on_by Lays lays c input first pen pen' next next' rest set
 
-pub takes_to_any : TakesTo Lays
-takes_to_any = takes_to_by Lays lays
+pub goes_to_any : {c next : Course} {input rest : List ℕ} {first pen : Pen} → GoesAny c input first pen next rest → length rest < SET
+    → (next ≡ (turned_to c input).kept.course) × ((length input / SET * SET ≡ size_of (records_of set_extent input)) × (length input / SET * SET ≤ length input))
+    × (Lays first pen (turned_to c input).kept.text (FOUR_MAX * (SETS_MAX + 1)) × (SET * length (turned_to c input).kept.text ≤ FOUR_MAX * length input))
+goes_to_any {c} {next} {input} {rest} {first} {pen} = takes_to_by Lays lays c input first pen next rest
